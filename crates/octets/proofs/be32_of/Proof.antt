@@ -1,0 +1,13 @@
+use Rattle.octets.specs.Numbers.{big}
+use borrow.Author.Needs.{needs}
+use Rattle.octets.proofs.be32_of.Statement.{statement}
+use Rattle.octets.proofs.be32_of.Tie as tie
+
+returns : tie.Need-returns
+unfolding big
+returns c = search needs
+
+pub be32-of-spec : {M : Type 1} → statement M
+be32-of-spec =
+    tie.close
+    (tie.spec (λ c. search needs) (λ c. search needs) (λ c. search needs) (λ c. search needs) (λ c. search needs) (λ c. search needs) returns)

@@ -1,0 +1,20 @@
+use Rattle.octets.specs.Parts.{listed, field}
+use Rattle.octets.specs.Numbers.{little}
+use borrow.Author.Needs.{needs}
+use Rattle.octets.proofs.le32.Statement.{statement}
+use Rattle.octets.proofs.le32.Tie as tie
+
+returns : tie.Need-returns
+unfolding little field listed
+returns c = search needs
+
+pub le32-spec : {M : Type 1} → statement M
+le32-spec =
+    tie.close
+    (tie.spec
+    (λ c κs. search needs)
+    (λ c κs. search needs)
+    (λ c κs. search needs)
+    (λ c κs. search needs)
+    (λ c κs. search needs)
+    returns)

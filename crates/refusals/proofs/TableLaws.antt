@@ -1,0 +1,90 @@
+-- What the first row that applies says of the rows, and the other way round, over any table.
+-- Assumes nothing.
+use Prim.Native.Nat.{ℕ}
+use mathlib.Core.Path.{_≡_, refl, sym, ap, _∙_}
+use mathlib.Core.Bool.{Bool, true, false, cond, not, _&&_, false≢true}
+use mathlib.Core.List.{List, [], _∷_, _++_}
+use native.Mathlib.Omega.{arith}
+use borrow.Author.Tests.{eqb-true, eqb-false, ne-eqb}
+use lib.Dec.{eqb}
+use Rattle.refusals.specs.declared.Answer.{Answer}
+use Rattle.refusals.specs.Table.{Row, answer, accepted, isAccepted, first, None, Decides, numbered}
+
+-- a test is true or false
+pub by-test : {B : Type 0} (b : Bool) → (b ≡ true → B) → (b ≡ false → B) → B
+by-test true f g = f refl
+by-test false f g = g refl
+
+pub and-both : (a b : Bool) → (a && b) ≡ true → (a ≡ true) × (b ≡ true)
+and-both true b h = (refl, h)
+and-both false b h = absurd (false≢true h)
+
+module _ (r : Row) (rs : List Row) where
+  pub first-here : r .applies ≡ true → first (r ∷ rs) ≡ answer (r .number) (r .place)
+  unfolding first
+  first-here h = rw h
+
+  pub first-next : r .applies ≡ false → first (r ∷ rs) ≡ first rs
+  unfolding first
+  first-next h = rw h
+
+  -- a row that refuses has a number
+  pub numbered-here : numbered (r ∷ rs) ≡ true → r .number ≡ 0 → ⊥
+  unfolding numbered
+  numbered-here h e = eqb-false (r .number) 0 (not-true (eqb (r .number) 0) (and-both (not (eqb (r .number) 0)) (numbered rs) h .0)) e
+    where
+      not-true : (b : Bool) → not b ≡ true → b ≡ false
+      not-true true q = sym q
+      not-true false q = refl
+
+  pub numbered-next : numbered (r ∷ rs) ≡ true → numbered rs ≡ true
+  unfolding numbered
+  numbered-next h = and-both (not (eqb (r .number) 0)) (numbered rs) h .1
+
+-- no row applies: accepted; and the other way round, where each row has a number
+pub none-first : (rows : List Row) → None rows → first rows ≡ accepted
+unfolding None first
+none-first [] h = refl
+none-first (r ∷ rs) h = first-next r rs (h .0) ∙ none-first rs (h .1)
+
+pub first-none : (rows : List Row) → numbered rows ≡ true → first rows .number ≡ 0 → None rows
+unfolding None
+first-none [] n h = tt
+first-none (r ∷ rs) n h =
+    by-test (r .applies)
+    (λ e. absurd (numbered-here r rs n (ap (λ (a : Answer). a .number) (sym (first-here r rs e)) ∙ h)))
+    (λ e. (e, first-none rs (numbered-next r rs n) (ap (λ (a : Answer). a .number) (sym (first-next r rs e)) ∙ h)))
+
+-- the row that decides gives the answer; and a refusal was given by a row that decides
+pub none-above : (a b : List Row) → None a → first (a ++ b) ≡ first b
+unfolding None
+none-above [] b h = refl
+none-above (r ∷ a) b h = first-next r (a ++ b) (h .0) ∙ none-above a b (h .1)
+
+pub decides-first : (rows : List Row) (n p : ℕ) → Decides rows n p → first rows ≡ answer n p
+decides-first rows n p d =
+    ap first (d .split) ∙ none-above (d .above) (d .here ∷ d .below) (d .quiet) ∙ first-here (d .here) (d .below) (d .holds) ∙ d .gives
+
+pub first-decides : (rows : List Row) (n p : ℕ) → (n ≡ 0 → ⊥) → first rows ≡ answer n p → Decides rows n p
+unfolding None first
+first-decides [] n p h e = absurd (h (sym (ap (λ (a : Answer). a .number) e)))
+first-decides (r ∷ rs) n p h e =
+    by-test (r .applies)
+    (λ t. record { above = []; here = r; below = rs; split = refl; quiet = tt; holds = t; gives = sym (first-here r rs t) ∙ e })
+    (λ t. later t (first-decides rs n p h (sym (first-next r rs t) ∙ e)))
+  where
+    later : r .applies ≡ false → Decides rs n p → Decides (r ∷ rs) n p
+    later t d =
+        record { above = r ∷ d .above; here = d .here; below = d .below; split = ap (λ (l : List Row). r ∷ l) (d .split); quiet = (t, d .quiet); holds = d .holds; gives = d .gives }
+
+-- a table of two parts: the first part's refusal, or else the second part's answer
+pub first-refused : (a b : List Row) → isAccepted (first a) ≡ false → first (a ++ b) ≡ first a
+unfolding first
+first-refused [] b h = absurd (false≢true (sym h))
+first-refused (r ∷ a) b h =
+    by-test (r .applies)
+    (λ e. first-here r (a ++ b) e ∙ sym (first-here r a e))
+    (λ e. first-next r (a ++ b) e ∙ first-refused a b (ap isAccepted (sym (first-next r a e)) ∙ h) ∙ sym (first-next r a e))
+
+pub first-passed : (a b : List Row) → numbered a ≡ true → isAccepted (first a) ≡ true → first (a ++ b) ≡ first b
+first-passed a b n h = none-above a b (first-none a n (eqb-true (first a .number) 0 h))

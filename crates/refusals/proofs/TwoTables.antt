@@ -1,0 +1,129 @@
+-- A table whose rows belong to two askers, by their numbers: where the numbers never fall, its answer is the lower of the two askers' own answers.
+-- Assumes nothing.
+use Prim.Native.Nat.{ℕ, _<_, _≤_}
+use mathlib.Core.Path.{_≡_, refl, sym, ap, _∙_}
+use mathlib.Core.Logic.{_⊎_, inl, inr}
+use mathlib.Core.Bool.{Bool, true, false, cond, not, _&&_, Bool·beq, false≢true}
+use mathlib.Core.List.{List, [], _∷_}
+use native.Mathlib.Omega.{arith}
+use native.Mathlib.Nat.{eq-or-lt-of-le}
+use borrow.Author.Tests.{ne-eqb, leb-true, le-leb, lt-leb}
+use lib.Dec.{eqb, leb}
+use Rattle.refusals.specs.declared.Answer.{Answer}
+use Rattle.refusals.specs.Table.{Row, answer, isAccepted, first, numbered, lower}
+use Rattle.refusals.proofs.TableLaws.{by-test, and-both, first-here, first-next, numbered-here, numbered-next}
+
+-- the numbers never fall
+unfoldable pub neverFalls : List Row → Bool
+neverFalls [] = true
+neverFalls (r ∷ []) = true
+neverFalls (r ∷ s ∷ rs) = leb (r .number) (s .number) && neverFalls (s ∷ rs)
+
+unfoldable AtLeast : ℕ → List Row → Type 0
+AtLeast n [] = Unit {0}
+AtLeast n (r ∷ rs) = (n ≤ r .number) × AtLeast n rs
+
+less-least : (m n : ℕ) (rs : List Row) → m ≤ n → AtLeast n rs → AtLeast m rs
+unfolding AtLeast
+less-least m n [] l h = tt
+less-least m n (r ∷ rs) l h = (omega arith, less-least m n rs l (h .1))
+
+rest-least : (r : Row) (rs : List Row) → neverFalls (r ∷ rs) ≡ true → AtLeast (r .number) rs × (neverFalls rs ≡ true)
+unfolding neverFalls AtLeast
+rest-least r [] h = (tt, refl)
+rest-least r (s ∷ rs) h =
+    let p = and-both (leb (r .number) (s .number)) (neverFalls (s ∷ rs)) h in
+    let l : r .number ≤ s .number = leb-true (r .number) (s .number) (p .0) in
+    ((l, less-least (r .number) (s .number) rs l (rest-least s rs (p .1) .0)), p .1)
+
+same-or-not : (x b : Bool) → (x ≡ b) ⊎ (x ≡ not b)
+same-or-not true true = inl refl
+same-or-not true false = inr refl
+same-or-not false true = inr refl
+same-or-not false false = inl refl
+
+module _ (ours : ℕ → Bool) where
+  -- the rows of one asker
+  unfoldable pub those : Bool → List Row → List Row
+  those b [] = []
+  those b (r ∷ rs) = cond (Bool·beq (ours (r .number)) b) (r ∷ those b rs) (those b rs)
+
+  those-in : (b : Bool) (r : Row) (rs : List Row) → ours (r .number) ≡ b → those b (r ∷ rs) ≡ r ∷ those b rs
+  unfolding those
+  those-in true r rs e = rw e
+  those-in false r rs e = rw e
+
+  those-out : (b : Bool) (r : Row) (rs : List Row) → ours (r .number) ≡ not b → those b (r ∷ rs) ≡ those b rs
+  unfolding those
+  those-out true r rs e = rw e
+  those-out false r rs e = rw e
+
+  -- an asker's refusal is at least n, and has a number of that asker's
+  Answers : Bool → ℕ → Answer → Type 0
+  Answers b n a = (isAccepted a ≡ true) ⊎ ((n ≤ a .number) × (ours (a .number) ≡ b))
+
+  those-answer : (b : Bool) (n : ℕ) (rs : List Row) → AtLeast n rs → Answers b n (first (those b rs))
+  unfolding Answers AtLeast those first
+  those-answer b n [] h = inl refl
+  those-answer b n (r ∷ rs) h = go (those-answer b n rs (h .1)) (same-or-not (ours (r .number)) b)
+    where
+      go : Answers b n (first (those b rs)) → (ours (r .number) ≡ b) ⊎ (ours (r .number) ≡ not b) → Answers b n (first (those b (r ∷ rs)))
+      go a (inr e) = rw (those-out b r rs e) a
+      go a (inl e) =
+          rw (those-in b r rs e)
+          (by-test (r .applies)
+          (λ t. rw (first-here r (those b rs) t) (inr (h .0, e)))
+          (λ t. rw (first-next r (those b rs) t) a))
+
+  -- a refusal of the other asker's, further down, has a higher number
+  further : (r : Row) (b : Bool) (a : Answer) → ours (r .number) ≡ not b → Answers b (r .number) a → (isAccepted a ≡ true) ⊎ (r .number < a .number)
+  unfolding Answers
+  further r b a e (inl h) = inl h
+  further r b a e (inr (l, s)) = go (eq-or-lt-of-le l)
+    where
+      differ : (x : Bool) → x ≡ not x → ⊥
+      differ true q = false≢true (sym q)
+      differ false q = false≢true q
+
+      go : (r .number ≡ a .number) ⊎ (r .number < a .number) → (isAccepted a ≡ true) ⊎ (r .number < a .number)
+      go (inl q) = absurd (differ b (sym s ∙ ap ours (sym q) ∙ e))
+      go (inr q) = inr q
+
+  -- the lower of an answer and one that gives way to it
+  lower-left : (a b : Answer) → (a .number ≡ 0 → ⊥) → (isAccepted b ≡ true) ⊎ (a .number < b .number) → lower a b ≡ a
+  lower-left a b n (inl h) = rw (ne-eqb (a .number) 0 n, h)
+  lower-left a b n (inr h) =
+      let z : b .number ≡ 0 → ⊥ = λ e. omega arith in
+      rw (ne-eqb (a .number) 0 n, ne-eqb (b .number) 0 z, le-leb (a .number) (b .number) (omega arith))
+
+  lower-right : (a b : Answer) → (b .number ≡ 0 → ⊥) → (isAccepted a ≡ true) ⊎ (b .number < a .number) → lower a b ≡ b
+  lower-right a b n (inl h) = rw h
+  lower-right a b n (inr h) =
+      let z : a .number ≡ 0 → ⊥ = λ e. omega arith in
+      rw (ne-eqb (a .number) 0 z, ne-eqb (b .number) 0 n, lt-leb (a .number) (b .number) h)
+
+  pub first-lower : (rs : List Row) → neverFalls rs ≡ true → numbered rs ≡ true → first rs ≡ lower (first (those true rs)) (first (those false rs))
+  unfolding those first
+  first-lower [] h n = refl
+  first-lower (r ∷ rs) h n = go (first-lower rs (l .1) (numbered-next r rs n)) (same-or-not (ours (r .number)) true)
+    where
+      l : AtLeast (r .number) rs × (neverFalls rs ≡ true)
+      l = rest-least r rs h
+
+      z : r .number ≡ 0 → ⊥
+      z = numbered-here r rs n
+
+      go : first rs ≡ lower (first (those true rs)) (first (those false rs)) → (ours (r .number) ≡ true) ⊎ (ours (r .number) ≡ false)
+          → first (r ∷ rs) ≡ lower (first (those true (r ∷ rs))) (first (those false (r ∷ rs)))
+      go ih (inl e) =
+          rw (those-in true r rs e, those-out false r rs e)
+          (by-test (r .applies)
+          (λ t. rw (first-here r rs t, first-here r (those true rs) t)
+          (sym (lower-left (answer (r .number) (r .place)) (first (those false rs)) z (further r false (first (those false rs)) e (those-answer false (r .number) rs (l .0))))))
+          (λ t. rw (first-next r rs t, first-next r (those true rs) t) ih))
+      go ih (inr e) =
+          rw (those-out true r rs e, those-in false r rs e)
+          (by-test (r .applies)
+          (λ t. rw (first-here r rs t, first-here r (those false rs) t)
+          (sym (lower-right (first (those true rs)) (answer (r .number) (r .place)) z (further r true (first (those true rs)) e (those-answer true (r .number) rs (l .0))))))
+          (λ t. rw (first-next r rs t, first-next r (those false rs) t) ih))

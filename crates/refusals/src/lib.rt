@@ -1,0 +1,34 @@
+// What the scanner answers, and how a table of refusals is read: from the top, by the first row
+// that applies. The laws about such tables stand in proofs/TableLaws.antt.
+// Which rows there are is left to the crates that know a case or a ledger.
+ghost use mathlib.Core.Path.{_≡_};
+ghost use Rattle.refusals.specs.Table.{accepted as acceptedOf, answer, isAccepted};
+
+// The number of a refusal and its place, or 0 and 0.
+pub struct Answer {
+    pub number: u8,
+    pub place: u8,
+}
+
+impl Answer {
+    pub fn accepted() -> Answer
+        ensures { λ r. ⌜ r ≡ acceptedOf ⌝ }
+    {
+        Answer {
+            number: 0,
+            place: 0,
+        }
+    }
+
+    pub fn refused(number: u8, place: u8) -> Answer
+        ensures { λ r. ⌜ r ≡ answer number place ⌝ }
+    {
+        Answer { number, place }
+    }
+
+    pub fn is_accepted(self) -> bool
+        ensures { λ r. ⌜ r ≡ isAccepted self ⌝ }
+    {
+        self.number == 0
+    }
+}

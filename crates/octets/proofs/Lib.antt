@@ -1,3 +1,4 @@
 pub mod Filling
 pub mod NumberLaws
 pub mod PartLaws
+pub mod RowLaws

@@ -1,10 +1,11 @@
 // Numbers of three kinds that must never be mixed: an amount of money, a leaf's position in the
-// tree, a row of a table. Each is a type of its own, so that none can be added to another.
-// What is done with them is left to the crates above.
+// tree, a row of a table. Each is a type of its own, so that none can be added to another. And
+// which of a pair is meant. What is done with them is left to the crates above.
 ghost use mathlib.Core.Path.{_≡_};
 ghost use Prim.Native.Nat.{_/_, _%_};
 ghost use lib.Dec.{eqb, leb, ltb};
 ghost use Rattle.units.specs.Limits.{maxMoney, treeLeaves};
+ghost use Rattle.units.specs.Pairs.{numberOf};
 
 // An amount in zatoshi.
 pub struct Amount(pub u64);
@@ -14,6 +15,23 @@ pub struct Position(pub u32);
 
 // A row of a table, counted from 0.
 pub struct Row(pub usize);
+
+// Which of a pair: of the old notes, the new notes, the nullifiers, the commitments.
+pub enum Which {
+    First,
+    Second,
+}
+
+impl Which {
+    pub fn number(self) -> u8
+        ensures { λ r. ⌜ r ≡ numberOf self ⌝ }
+    {
+        match self {
+            Which::First => 1,
+            Which::Second => 2,
+        }
+    }
+}
 
 impl Amount {
     pub fn is_zero(self) -> bool

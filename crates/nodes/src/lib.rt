@@ -1,0 +1,4 @@
+// Nodes of the commitment tree.
+pub fn one() -> u8 {
+    1
+}

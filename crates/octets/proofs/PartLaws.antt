@@ -5,14 +5,14 @@ use mathlib.Core.Bool.{Bool, true, false, _&&_, and-false, false≢true}
 use mathlib.Core.List.{List, [], _∷_, _++_, append-assoc}
 use Prim.Native.Nat.{ℕ, zero, suc, _+_, _-_, _≤_, _<_}
 use mathlib.Core.Logic.{_⊎_, inl, inr}
-use native.Mathlib.Nat.{add-assoc, eq-or-lt-of-le, le-of-suc-le-suc, lt-of-not-le}
+use native.Mathlib.Nat.{zero-add, add-assoc, eq-or-lt-of-le, le-of-suc-le-suc, lt-of-not-le}
 use native.Mathlib.Decide.{decLe}
 use native.Mathlib.Numerals.{add-one}
 use native.Mathlib.Omega.{arith}
 use borrow.Author.Tests.{eq-eqb, ne-eqb, eqb-true, le-leb, lt-leb}
 use lib.Dec.{eqb, leb}
 use lib.ListN.{length, getD, take, drop, set, take-append-drop, drop-of-length-le, length-append, length-drop, List·getD-append, List·getD-eq-default}
-use lib.Seq.{drop-cons, take-suc, take-length, getD-drop, getD-append-add, getD-at, length-take-le, paste, paste-suc}
+use lib.Seq.{drop-cons, take-suc, take-length, getD-drop, getD-take, getD-append-add, getD-at, length-take-le, paste, paste-suc}
 use Rattle.octets.specs.Parts.{zeros, listed, field, fitsIn, pasted, same}
 use Rattle.octets.proofs.Filling.{listed-length, listed-agree}
 
@@ -35,6 +35,12 @@ unfolding field
 field-part at n s h =
     listed-agree _ (λ i. getD (drop at s) i 0) n (λ i l. sym (getD-drop at s i 0))
     ∙ listed-take (drop at s) n (omega (arith, length-drop at s))
+
+-- a field, read from those of its bytes that the list has
+pub field-present : (at n : ℕ) (s : List ℕ) → field 0 n (take n (drop at s)) ≡ field at n s
+unfolding field
+field-present at n s =
+    listed-agree _ _ n (λ i l. ap (λ (k : ℕ). getD (take n (drop at s)) k 0) (zero-add i) ∙ getD-take n (drop at s) i 0 l ∙ getD-drop at s i 0)
 
 -- the whole list is a field of it
 pub field-all : (s : List ℕ) → field 0 (length s) s ≡ s

@@ -7,3 +7,8 @@ use Rattle.units.specs.declared.Which.the-variants.{First, Second}
 abbrev pub numberOf : Which → ℕ
 numberOf First = 1
 numberOf Second = 2
+
+-- one of two things, by which of the pair is meant
+abbrev pub ofPair : {A : Type 0} → Which → A → A → A
+ofPair First a b = a
+ofPair Second a b = b

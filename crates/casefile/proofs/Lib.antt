@@ -1,0 +1,2 @@
+pub mod LayoutLaws
+mod Places

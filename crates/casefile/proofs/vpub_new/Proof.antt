@@ -1,0 +1,12 @@
+use Rattle.casefile.specs.Layout.{description, oldNote, newNote, lengths, total, offset, proofLength, partOf}
+use Rattle.casefile.specs.Fields.{vpubNewOf}
+use borrow.Author.Needs.{needs}
+use Rattle.casefile.proofs.vpub_new.Statement.{statement}
+use Rattle.casefile.proofs.vpub_new.Tie as tie
+
+returns : tie.Need-returns
+unfolding vpubNewOf description oldNote newNote lengths total offset proofLength partOf
+returns c = c .le64 .ensures
+
+pub vpub-new-spec : {M : Type 1} → statement M
+vpub-new-spec = tie.close (tie.spec (λ c κs. search needs) returns)

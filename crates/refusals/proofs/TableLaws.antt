@@ -3,12 +3,12 @@
 use Prim.Native.Nat.{ℕ}
 use mathlib.Core.Path.{_≡_, refl, sym, ap, _∙_}
 use mathlib.Core.Bool.{Bool, true, false, cond, not, _&&_, false≢true}
-use mathlib.Core.List.{List, [], _∷_, _++_}
+use mathlib.Core.List.{List, [], _∷_, _++_, append-nil}
 use native.Mathlib.Omega.{arith}
 use borrow.Author.Tests.{eqb-true, eqb-false, ne-eqb}
 use lib.Dec.{eqb}
 use Rattle.refusals.specs.declared.Answer.{Answer}
-use Rattle.refusals.specs.Table.{Row, answer, accepted, isAccepted, first, None, Decides, numbered}
+use Rattle.refusals.specs.Table.{Row, answer, accepted, isAccepted, first, rowsIn, forEach, None, Decides, numbered}
 
 -- a test is true or false
 pub by-test : {B : Type 0} (b : Bool) → (b ≡ true → B) → (b ≡ false → B) → B
@@ -88,3 +88,31 @@ first-refused (r ∷ a) b h =
 
 pub first-passed : (a b : List Row) → numbered a ≡ true → isAccepted (first a) ≡ true → first (a ++ b) ≡ first b
 first-passed a b n h = none-above a b (first-none a n (eqb-true (first a .number) 0 h))
+
+-- a function that asks one refusal after the other: where an answer refuses it is the whole answer, and where it does not the rest decides
+module _ (g : List Row) (gs : List (List Row)) (a : Answer) (e : a ≡ first g) where
+  pub stops : isAccepted a ≡ false → a ≡ first (rowsIn (g ∷ gs))
+  unfolding rowsIn
+  stops h = e ∙ sym (first-refused g (rowsIn gs) (ap isAccepted (sym e) ∙ h))
+
+  pub goes-on : numbered g ≡ true → isAccepted a ≡ true → first (rowsIn (g ∷ gs)) ≡ first (rowsIn gs)
+  unfolding rowsIn
+  goes-on n h = first-passed g (rowsIn gs) n (ap isAccepted (sym e) ∙ h)
+
+pub last-group : (g : List Row) → first g ≡ first (rowsIn (g ∷ []))
+unfolding rowsIn
+last-group g = ap first (sym (append-nil g))
+
+-- a refusal of a pair
+module _ (test : ℕ → Bool) (n : ℕ) where
+  pub each-first : test 1 ≡ true → answer n 1 ≡ first (forEach test n)
+  unfolding first
+  each-first h = rw h
+
+  pub each-second : test 1 ≡ false → test 2 ≡ true → answer n 2 ≡ first (forEach test n)
+  unfolding first
+  each-second h k = rw (h, k)
+
+  pub each-none : test 1 ≡ false → test 2 ≡ false → accepted ≡ first (forEach test n)
+  unfolding first
+  each-none h k = rw (h, k)

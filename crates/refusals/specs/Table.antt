@@ -29,6 +29,15 @@ unfoldable pub first : List Row → Answer
 first [] = accepted
 first (r ∷ rs) = cond (r .applies) (answer (r .number) (r .place)) (first rs)
 
+-- the rows of several refusals, one refusal after the other
+unfoldable pub rowsIn : List (List Row) → List Row
+rowsIn [] = []
+rowsIn (g ∷ gs) = g ++ rowsIn gs
+
+-- a refusal that can be given of the first or of the second of a pair: the first goes first
+abbrev pub forEach : (ℕ → Bool) → ℕ → List Row
+forEach test n = row (test 1) n 1 ∷ row (test 2) n 2 ∷ []
+
 -- no row applies
 unfoldable pub None : List Row → Type 0
 None [] = Unit {0}

@@ -1,0 +1,6 @@
+mod Ends
+mod Growth
+pub mod Laws
+mod Runs
+mod Turns
+mod Vector

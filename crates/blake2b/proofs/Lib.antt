@@ -1,0 +1,8 @@
+mod Bytes
+pub mod Laws
+mod Lengths
+mod Order
+mod Padding
+mod Runs
+mod Starting
+mod Vector

@@ -1,0 +1,44 @@
+use mathlib.Core.Path.{refl}
+use Prim.Native.Nat.{_≤_, _-_}
+use native.Mathlib.Omega.{arith}
+use Rattle.octets.specs.Parts.{listed}
+use Rattle.octets.proofs.Filling.{Filled, next, full}
+use Rattle.blake2b.specs.Compression.{wordAt}
+use borrow.Author.Needs.{needs}
+use Rattle.blake2b.proofs.words.Statement.{statement}
+use Rattle.blake2b.proofs.words.Tie as tie
+
+abbrev Inv-loop : tie.InvT-loop
+Inv-loop b w₀ i₀ w i = (i ≤ 16) × Filled (wordAt b) 16 i w
+
+abbrev μ-loop : tie.MeasureT-loop
+μ-loop b w₀ i₀ w i = 16 - i
+
+loop-holds : tie.Need-loop-holds Inv-loop μ-loop
+unfolding listed
+loop-holds c = (search needs, record { long = refl; made = refl })
+
+loop-again : tie.Need-loop-again Inv-loop μ-loop
+loop-again c =
+    let p = c .before .before in
+    (search needs, next _ 16 (p .loop .i) (p .loop .w) _ (omega arith) (p .loop .inv .1) (c .word .ensures))
+
+returns : tie.Need-returns Inv-loop μ-loop
+returns c =
+    let p = c .before .loop in
+    full _ 16 (p .i) (p .w) (omega arith) (p .inv .1)
+
+pub words-spec : {M : Type 1} → statement M
+words-spec =
+    tie.close
+    (tie.spec
+    Inv-loop
+    μ-loop
+    loop-holds
+    (λ c κs. search needs)
+    (λ c. search needs)
+    (λ c. search needs)
+    (λ c. search needs)
+    (λ c. search needs)
+    loop-again
+    returns)

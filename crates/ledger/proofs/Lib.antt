@@ -1,0 +1,5 @@
+pub mod ByteOrder
+pub mod Members
+pub mod RowLaws
+pub mod Sorting
+pub mod TableLaws

@@ -1,0 +1,149 @@
+-- The rows of a table: which they are, what a turn of each loop over them learns, and what moving bytes up makes of them.
+-- Assumes nothing.
+use Prim.Native.Nat.{ℕ, zero, suc, _+_, _-_, _*_, _<_, _≤_}
+use mathlib.Core.Path.{_≡_, refl, sym, ap, _∙_}
+use mathlib.Core.Bool.{Bool, true, false, _||_}
+use mathlib.Core.List.{List, [], _∷_, _++_, append-assoc}
+use native.Mathlib.Numerals.{add-one}
+use native.Mathlib.Omega.{arith}
+use lib.ListN.{length, getD, take, drop, set, take-append-drop, drop-of-length-le, length-append, length-drop, List·getD-append}
+use lib.Seq.{take-all, drop-cons, drop-drop, take-suc, take-add, take-take, take-append-le, drop-at, length-take-le, set-at, getD-take, append-snoc}
+use Rattle.octets.specs.Parts.{same, pasted}
+use Rattle.octets.proofs.PartLaws.{pasted-is}
+use Rattle.ledger.specs.Sorted.{onOrder, placeOf, isGap, rising, find, insert}
+use Rattle.ledger.specs.Rows.{byteOrder, rowAt, rowsOf, flat, shifted, withRow, onRoll}
+use Rattle.ledger.specs.declared.order.Order.{Order}
+use Rattle.ledger.proofs.ByteOrder.{byte-total, same-order}
+use Rattle.ledger.proofs.Sorting.{rising-step, place-le, insert-gap}
+
+pub rows-length : (n : ℕ) (t : List ℕ) → length (rowsOf n t) ≡ n
+unfolding rowsOf
+rows-length zero t = refl
+rows-length (suc n) t = ap suc (rows-length n (drop 32 t))
+
+-- row i of the first n
+pub rows-at : (n i : ℕ) (t : List ℕ) → i < n → getD (rowsOf n t) i [] ≡ rowAt t i
+unfolding rowsOf
+rows-at zero i t h = absurd (omega arith)
+rows-at (suc n) zero t h = refl
+rows-at (suc n) (suc i) t h =
+    let e : 32 + i * 32 ≡ suc i * 32 = omega arith in
+    rows-at n i (drop 32 t) (omega arith) ∙ rw (drop-drop (i * 32) 32 t, e)
+
+-- a turn of the loop that asks whether the rows rise: two neighbours decide
+pub rising-turn : (n i : ℕ) (t : List ℕ) → i + 1 < n
+    → rising byteOrder (drop i (rowsOf n t)) ≡ onOrder (byteOrder (rowAt t i) (rowAt t (i + 1))) (rising byteOrder (drop (i + 1) (rowsOf n t))) false false
+rising-turn n i t h =
+    rising-step byteOrder byte-total [] (rowsOf n t) i (omega (arith, rows-length n t)) ∙ rw (rows-at n i t (omega arith), rows-at n (i + 1) t h)
+
+-- a row compared with row i of the first n
+pub row-order : (n i : ℕ) (t r : List ℕ) → i < n → length r ≡ 32 → byteOrder (take 32 r) (rowAt t i) ≡ byteOrder r (getD (rowsOf n t) i [])
+row-order n i t r h e = rw (take-all 32 r (omega arith), rows-at n i t h)
+
+-- a turn of the loop over the roll, and its end
+pub roll-turn : (n i : ℕ) (t r : List ℕ) → i < n
+    → onRoll r (drop i (rowsOf n t)) ≡ (onOrder (byteOrder r (getD (rowsOf n t) i [])) false true false || onRoll r (drop (i + 1) (rowsOf n t)))
+unfolding onRoll
+roll-turn n i t r h =
+    let k : i < length (rowsOf n t) = omega (arith, rows-length n t) in
+    rw (drop-cons (rowsOf n t) i [] k, same-order, add-one)
+
+pub roll-end : (n i : ℕ) (t r : List ℕ) → n ≤ i → onRoll r (drop i (rowsOf n t)) ≡ false
+unfolding onRoll
+roll-end n i t r h =
+    let k : length (rowsOf n t) ≤ i = omega (arith, rows-length n t) in
+    rw (drop-of-length-le (rowsOf n t) k)
+
+-- rows and their bytes
+flat-append : (k l : List (List ℕ)) → flat (k ++ l) ≡ flat k ++ flat l
+unfolding flat
+flat-append [] l = refl
+flat-append (r ∷ k) l = ap (λ (u : List ℕ). r ++ u) (flat-append k l) ∙ sym (append-assoc r (flat k) (flat l))
+
+pub flat-rows : (n : ℕ) (t : List ℕ) → flat (rowsOf n t) ≡ take (n * 32) t
+unfolding flat rowsOf
+flat-rows zero t = refl
+flat-rows (suc n) t =
+    let e : suc n * 32 ≡ 32 + n * 32 = omega arith in
+    rw (e, take-add 32 (n * 32) t, flat-rows n (drop 32 t))
+
+take-rows : (k n : ℕ) (t : List ℕ) → k ≤ n → take k (rowsOf n t) ≡ rowsOf k t
+unfolding rowsOf
+take-rows zero n t h = refl
+take-rows (suc k) zero t h = absurd (omega arith)
+take-rows (suc k) (suc n) t h = ap (λ (l : List (List ℕ)). take 32 t ∷ l) (take-rows k n (drop 32 t) (omega arith))
+
+drop-rows : (k n : ℕ) (t : List ℕ) → k ≤ n → drop k (rowsOf n t) ≡ rowsOf (n - k) (drop (k * 32) t)
+unfolding rowsOf
+drop-rows zero n t h = let e : n - 0 ≡ n = omega arith in rw e
+drop-rows (suc k) zero t h = absurd (omega arith)
+drop-rows (suc k) (suc n) t h =
+    let e : suc n - suc k ≡ n - k = omega arith in
+    let f : 32 + k * 32 ≡ suc k * 32 = omega arith in
+    drop-rows k n (drop 32 t) (omega arith) ∙ rw (e, drop-drop (k * 32) 32 t, f)
+
+-- the bytes that the loop has moved up: none, and one more
+pub shifted-none : (t : List ℕ) (to : ℕ) → t ≡ shifted t to to
+unfolding shifted
+shifted-none t to =
+    let e : to - to ≡ 0 = omega arith in
+    rw e (sym (take-append-drop (to + 32) t))
+
+module _ (t : List ℕ) (j to : ℕ) (h : j < to) (room : to + 32 ≤ length t) where
+  abbrev rest : List ℕ
+  rest = take (to - suc j) (drop (suc j) t) ++ drop (to + 32) t
+
+  upper : shifted t (suc j) to ≡ take (j + 32) t ++ (getD t (j + 32) 0 ∷ rest)
+  unfolding shifted
+  upper =
+      let e : suc j + 32 ≡ suc (j + 32) = omega arith in
+      let k : j + 32 < length t = omega arith in
+      rw (e, take-suc t (j + 32) 0 k) (append-snoc (take (j + 32) t) (getD t (j + 32) 0) rest)
+
+  lower : shifted t j to ≡ take (j + 32) t ++ (getD t j 0 ∷ rest)
+  unfolding shifted
+  lower =
+      let e : to - j ≡ suc (to - suc j) = omega arith in
+      let k : j < length t = omega arith in
+      rw (e, drop-cons t j 0 k)
+
+  head-length : length (take (j + 32) t) ≡ j + 32
+  head-length = length-take-le (j + 32) t (omega arith)
+
+  moved : getD (shifted t (suc j) to) j 0 ≡ getD t j 0
+  moved =
+      rw upper
+      (List·getD-append (take (j + 32) t) (getD t (j + 32) 0 ∷ rest) 0 j (omega (arith, head-length)) ∙ getD-take (j + 32) t j 0 (omega arith))
+
+  pub shifted-step : set (shifted t (suc j) to) (j + 32) (getD (shifted t (suc j) to) j 0) ≡ shifted t j to
+  shifted-step = rw (moved, upper, lower) (set-at (take (j + 32) t) (getD t (j + 32) 0) rest (getD t j 0) (j + 32) head-length)
+
+-- a row that stands nowhere, put in at its place k: the rows from there on moved up, and the row written in their place
+module _ (n k : ℕ) (t r : List ℕ) (room : (n + 1) * 32 ≤ length t) (long : length r ≡ 32) (at : k ≡ placeOf (find byteOrder r (rowsOf n t))) where
+  place-rows : k ≤ n
+  place-rows = omega (arith, place-le byteOrder byte-total r (rowsOf n t), rows-length n t)
+
+  abbrev putIn : List ℕ
+  putIn = take (k * 32) t ++ (r ++ (take ((n - k) * 32) (drop (k * 32) t) ++ drop ((n + 1) * 32) t))
+
+  by-rows : isGap (find byteOrder r (rowsOf n t)) ≡ true → withRow n t r ≡ putIn
+  unfolding withRow flat
+  by-rows g =
+      rw (insert-gap byteOrder byte-total r (rowsOf n t) g, ← at, take-rows k n t place-rows, drop-rows k n t place-rows, flat-append (rowsOf k t) (r ∷ rowsOf (n - k) (drop (k * 32) t)), flat-rows k t, flat-rows (n - k) (drop (k * 32) t))
+      (simp append-assoc)
+
+  by-bytes : pasted (k * 32) r (shifted t (k * 32) (n * 32)) ≡ putIn
+  unfolding shifted
+  by-bytes =
+      let s = k * 32 in
+      let h = place-rows in
+      let p = take (s + 32) t in
+      let q = take (n * 32 - s) (drop s t) ++ drop (n * 32 + 32) t in
+      let lp : length p ≡ s + 32 = length-take-le (s + 32) t (omega arith) in
+      let e1 : n * 32 - s ≡ (n - k) * 32 = omega arith in
+      let e2 : n * 32 + 32 ≡ (n + 1) * 32 = omega arith in
+      pasted-is s r (p ++ q) (omega (arith, length-append p q))
+      ∙ rw (long, drop-at p q (s + 32) lp, take-append-le s p q (omega arith), take-take s (s + 32) t (omega arith), e1, e2)
+
+  pub put-row : isGap (find byteOrder r (rowsOf n t)) ≡ true → pasted (k * 32) r (shifted t (k * 32) (n * 32)) ≡ withRow n t r
+  put-row g = by-bytes ∙ sym (by-rows g)

@@ -1,0 +1,40 @@
+use mathlib.Core.Path.{_≡_, sym, ap, _∙_}
+use Prim.Native.Nat.{_+_}
+use mathlib.Core.List.{List}
+use native.Mathlib.Nat.{add-zero}
+use native.Mathlib.Omega.{arith}
+use Rattle.octets.specs.Parts.{listed, field}
+use Rattle.octets.specs.Numbers.{big}
+use Rattle.octets.proofs.PartLaws.{field-part}
+use borrow.Author.Needs.{needs}
+use Rattle.ledger.proofs.order.word.Statement.{statement}
+use Rattle.ledger.proofs.order.word.Tie as tie
+
+returns : tie.Need-returns
+unfolding field listed
+returns c =
+    let s = c .before .before .before .before .before .before .before .before .before .before in
+    let e = field-part (s .args .at) 8 (s .args .s .now) (s .pre) in
+    rw (c .be64-of .ensures, ← e, add-zero)
+
+pub word-spec : {M : Type 1} → statement M
+word-spec =
+    tie.close
+    (tie.spec
+    (λ c. search needs)
+    (λ c. search needs)
+    (λ c. search needs)
+    (λ c. search needs)
+    (λ c. search needs)
+    (λ c. search needs)
+    (λ c. search needs)
+    (λ c. search needs)
+    (λ c. search needs)
+    (λ c. search needs)
+    (λ c. search needs)
+    (λ c. search needs)
+    (λ c. search needs)
+    (λ c. search needs)
+    (λ c. search needs)
+    (λ c κs. search needs)
+    returns)

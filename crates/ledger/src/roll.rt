@@ -1,0 +1,28 @@
+// The anchor roll: rows of 32 bytes in lent memory, of which the first count are used, in the order in
+// which they were written. How one row stands to another is left to order.rt.
+use crate::order::Order;
+use crate::order::compare;
+ghost use mathlib.Core.Path.{_≡_};
+ghost use Prim.Native.Nat.{_*_, _≤_};
+ghost use lib.ListN.{length};
+ghost use Rattle.ledger.specs.Rows.{rowsOf, onRoll};
+
+// Whether a row is among the first count.
+pub fn stands_on(roll: &[u8], count: usize, row: &[u8; 32]) -> bool
+    requires { ⌜ count * 32 ≤ length (now roll) ⌝ }
+    ensures { λ r. ⌜ r ≡ onRoll (now (row .entry)) (rowsOf count (now (roll .entry))) ⌝ }
+{
+    let mut i = 0;
+    while i < count {
+        let o = compare(row, 0, roll, i * 32);
+        match o {
+            Order::Less => {}
+            Order::Equal => {
+                return true;
+            }
+            Order::Greater => {}
+        }
+        i += 1;
+    }
+    false
+}

@@ -1,0 +1,108 @@
+// The nullifier table: rows of 32 bytes in lent memory, of which the first count are used and strictly
+// rise in byte order. How one row stands to another is left to order.rt, and whether a table is as it
+// has to be, to the caller.
+use crate::Found;
+use crate::order::Order;
+use crate::order::compare;
+use units::Row;
+ghost use mathlib.Core.Path.{_≡_};
+ghost use mathlib.Core.Bool.{true};
+ghost use Prim.Native.Nat.{_+_, _*_, _≤_};
+ghost use lib.ListN.{length};
+ghost use Rattle.ledger.specs.Sorted.{placeOf, isGap, rising, find};
+ghost use Rattle.ledger.specs.Rows.{byteOrder, rowsOf, shifted, withRow, entered, Fresh};
+
+// Whether the first count rows strictly rise.
+pub fn is_rising(table: &[u8], count: usize) -> bool
+    requires { ⌜ count * 32 ≤ length (now table) ⌝ }
+    ensures { λ r. ⌜ r ≡ rising byteOrder (rowsOf count (now (table .entry))) ⌝ }
+{
+    let mut i = 0;
+    while i + 1 < count {
+        let o = compare(table, i * 32, table, (i + 1) * 32);
+        match o {
+            Order::Less => {
+                i += 1;
+            }
+            Order::Equal => {
+                return false;
+            }
+            Order::Greater => {
+                return false;
+            }
+        }
+    }
+    true
+}
+
+// Where a row stands among the first count, or where it would go.
+pub fn search(table: &[u8], count: usize, row: &[u8; 32]) -> Found
+    requires { ⌜ count * 32 ≤ length (now table) ⌝ }
+    requires { ⌜ rising byteOrder (rowsOf count (now table)) ≡ true ⌝ }
+    ensures { λ r. ⌜ r ≡ find byteOrder (now (row .entry)) (rowsOf count (now (table .entry))) ⌝ }
+{
+    let mut i = 0;
+    while i < count {
+        let o = compare(row, 0, table, i * 32);
+        match o {
+            Order::Less => {
+                return Found::Gap(Row(i));
+            }
+            Order::Equal => {
+                return Found::At(Row(i));
+            }
+            Order::Greater => {
+                i += 1;
+            }
+        }
+    }
+    Found::Gap(Row(i))
+}
+
+// The row that a search answers, whichever way it does.
+fn place(found: Found) -> usize
+    ensures { λ r. ⌜ r ≡ placeOf found ⌝ }
+{
+    match found {
+        Found::At(r) => r.0,
+        Found::Gap(r) => r.0,
+    }
+}
+
+// The bytes from index from up to to, moved up by one row. Downwards, so that none is overwritten
+// before it is moved.
+fn shift(table: &mut [u8], from: usize, to: usize)
+    requires { ⌜ (from ≤ to) × (to + 32 ≤ length (now table)) ⌝ }
+    ensures { λ _. ⌜ now (table .exit) ≡ shifted (now (table .entry)) from to ⌝ }
+{
+    let mut i = to;
+    while from < i {
+        i -= 1;
+        let b = table[i];
+        table[i + 32] = b;
+    }
+}
+
+// A row that stands nowhere yet, put in where it goes. That it has 32 bytes is told to the caller.
+fn enter_one(table: &mut [u8], count: usize, row: &[u8; 32])
+    requires { ⌜ (count + 1) * 32 ≤ length (now table) ⌝ }
+    requires { ⌜ rising byteOrder (rowsOf count (now table)) ≡ true ⌝ }
+    requires { ⌜ isGap (find byteOrder (now row) (rowsOf count (now table))) ≡ true ⌝ }
+    ensures { λ _. ⌜ length (now (row .entry)) ≡ 32 ⌝ }
+    ensures { λ _. ⌜ now (table .exit) ≡ withRow count (now (table .entry)) (now (row .entry)) ⌝ }
+{
+    let at = place(search(&*table, count, row)) * 32;
+    shift(&mut *table, at, count * 32);
+    octets::copy_in(table, at, row);
+}
+
+// Two rows put in where they go.
+pub fn enter_two(table: &mut [u8], count: usize, a: &[u8; 32], b: &[u8; 32])
+    requires { ⌜ (count + 2) * 32 ≤ length (now table) ⌝ }
+    requires { ⌜ rising byteOrder (rowsOf count (now table)) ≡ true ⌝ }
+    requires { ⌜ Fresh count (now table) (now a) (now b) ⌝ }
+    ensures { λ _. ⌜ now (table .exit) ≡ entered count (now (table .entry)) (now (a .entry)) (now (b .entry)) ⌝ }
+{
+    enter_one(&mut *table, count, a);
+    enter_one(table, count + 1, b);
+}

@@ -2,19 +2,19 @@
 -- numbers do that they write, the first byte the highest. Assumes nothing.
 use Prim.Native.Nat.{ℕ, zero, suc, _+_, _*_, _-_, _^_, _<_, _≤_}
 use mathlib.Core.Path.{_≡_, refl, sym, ap, _∙_}
-use mathlib.Core.Bool.{Bool, true, false, _&&_, true≢false}
+use mathlib.Core.Bool.{true, false, _&&_, true≢false}
 use mathlib.Core.Logic.{_⊎_, inl, inr}
 use mathlib.Core.List.{List, [], _∷_, _++_}
-use native.Mathlib.Nat.{suc-mul, mul-le-mul-right, pow-suc, suc-inj}
+use native.Mathlib.Nat.{suc-mul, mul-le-mul-right, pow-suc}
 use native.Mathlib.Decide.{decLt}
 use native.Mathlib.Omega.{arith}
 use borrow.Author.Tests.{lt-ltb, le-ltb, eq-eqb, ne-eqb}
 use lib.Dec.{eqb}
-use lib.ListN.{length, getD, take, drop, take-append-drop, length-drop}
+use lib.ListN.{length, getD, take, drop, length-drop}
 use lib.Seq.{drop-drop, take-add, getD-drop, length-take-le}
 use Rattle.octets.specs.Numbers.{big}
 use Rattle.octets.specs.Parts.{same}
-use Rattle.ledger.specs.Sorted.{onOrder, turned, Total}
+use Rattle.ledger.specs.Sorted.{isEqual, turned, Total}
 use Rattle.ledger.specs.Rows.{decided, byteOrder}
 use Rattle.ledger.specs.declared.order.Order.{Order}
 use Rattle.ledger.specs.declared.order.Order.the-variants.{Less, Equal, Greater}
@@ -185,19 +185,19 @@ word-turn s i t j k h hs ht bs bt ex ey =
     rw (w, ei, ej, ex, ey) (part-numbers 8 m (i + k * 8) (j + k * 8) s t (omega arith) (omega arith) bs bt)
 
 -- the answer `same` is equality in byte order
-pub same-order : (s t : List ℕ) → same s t ≡ onOrder (byteOrder s t) false true false
+pub same-order : (s t : List ℕ) → same s t ≡ isEqual (byteOrder s t)
 unfolding same byteOrder
 same-order [] [] = refl
 same-order [] (y ∷ t) = refl
 same-order (x ∷ s) [] = refl
 same-order (x ∷ s) (y ∷ t) = go (same-order s t) (stand x y)
   where
-    go : same s t ≡ onOrder (byteOrder s t) false true false → Stand x y → (eqb x y && same s t) ≡ onOrder (decided x y (byteOrder s t)) false true false
+    go : same s t ≡ isEqual (byteOrder s t) → Stand x y → (eqb x y && same s t) ≡ isEqual (decided x y (byteOrder s t))
     go r (below h) = rw (ne-eqb x y (λ e. omega arith), decided-below (byteOrder s t) h)
     go r (level h) = rw (eq-eqb x y h, decided-level (byteOrder s t) h) r
     go r (above h) = rw (ne-eqb x y (λ e. omega arith), decided-above (byteOrder s t) h)
 
 pub differ-order : (s t : List ℕ) → same s t ≡ false → byteOrder s t ≡ Equal → ⊥
 differ-order s t h e =
-    let k : same s t ≡ true = same-order s t ∙ ap (λ (o : Order). onOrder o false true false) e in
+    let k : same s t ≡ true = same-order s t ∙ ap isEqual e in
     true≢false (sym k ∙ h)

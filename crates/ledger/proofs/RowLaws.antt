@@ -2,19 +2,20 @@
 -- Assumes nothing.
 use Prim.Native.Nat.{ℕ, zero, suc, _+_, _-_, _*_, _<_, _≤_}
 use mathlib.Core.Path.{_≡_, refl, sym, ap, _∙_}
-use mathlib.Core.Bool.{Bool, true, false, _||_}
+use mathlib.Core.Bool.{true, false, _&&_, _||_}
 use mathlib.Core.List.{List, [], _∷_, _++_, append-assoc}
 use native.Mathlib.Numerals.{add-one}
 use native.Mathlib.Omega.{arith}
-use lib.ListN.{length, getD, take, drop, set, take-append-drop, drop-of-length-le, length-append, length-drop, List·getD-append}
-use lib.Seq.{take-all, drop-cons, drop-drop, take-suc, take-add, take-take, take-append-le, drop-at, length-take-le, set-at, getD-take, append-snoc}
-use Rattle.octets.specs.Parts.{same, pasted}
+use lib.ListN.{length, getD, take, drop, set, take-append-drop, drop-of-length-le, length-append, List·getD-append}
+use lib.Seq.{drop-cons, drop-drop, take-suc, take-add, take-take, take-append-le, drop-at, length-take-le, set-at, getD-take, append-snoc}
+use Rattle.octets.specs.Parts.{pasted}
 use Rattle.octets.proofs.PartLaws.{pasted-is}
-use Rattle.ledger.specs.Sorted.{onOrder, placeOf, isGap, rising, find, insert}
+use Rattle.ledger.specs.Sorted.{row, isLess, isEqual, placeOf, isGap, rising, find}
 use Rattle.ledger.specs.Rows.{byteOrder, rowAt, rowsOf, flat, shifted, withRow, onRoll}
-use Rattle.ledger.specs.declared.order.Order.{Order}
+use Rattle.ledger.specs.declared.order.Order.the-variants.{Less, Equal, Greater}
+use Rattle.ledger.specs.declared.Found.the-variants.{At, Gap}
 use Rattle.ledger.proofs.ByteOrder.{byte-total, same-order}
-use Rattle.ledger.proofs.Sorting.{rising-step, place-le, insert-gap}
+use Rattle.ledger.proofs.Sorting.{rising-step, find-at, find-gap, place-le, insert-gap}
 
 pub rows-length : (n : ℕ) (t : List ℕ) → length (rowsOf n t) ≡ n
 unfolding rowsOf
@@ -32,21 +33,31 @@ rows-at (suc n) (suc i) t h =
 
 -- a turn of the loop that asks whether the rows rise: two neighbours decide
 pub rising-turn : (n i : ℕ) (t : List ℕ) → i + 1 < n
-    → rising byteOrder (drop i (rowsOf n t)) ≡ onOrder (byteOrder (rowAt t i) (rowAt t (i + 1))) (rising byteOrder (drop (i + 1) (rowsOf n t))) false false
+    → rising byteOrder (drop i (rowsOf n t)) ≡ (isLess (byteOrder (rowAt t i) (rowAt t (i + 1))) && rising byteOrder (drop (i + 1) (rowsOf n t)))
 rising-turn n i t h =
     rising-step byteOrder byte-total [] (rowsOf n t) i (omega (arith, rows-length n t)) ∙ rw (rows-at n i t (omega arith), rows-at n (i + 1) t h)
 
--- a row compared with row i of the first n
-pub row-order : (n i : ℕ) (t r : List ℕ) → i < n → length r ≡ 32 → byteOrder (take 32 r) (rowAt t i) ≡ byteOrder r (getD (rowsOf n t) i [])
-row-order n i t r h e = rw (take-all 32 r (omega arith), rows-at n i t h)
+-- where a row stands among the first n, or would go, by the rows beside that place
+module _ (n k : ℕ) (t r : List ℕ) (rises : rising byteOrder (rowsOf n t) ≡ true) where
+  pub stands-at : k < n → byteOrder r (rowAt t k) ≡ Equal → At (row k) ≡ find byteOrder r (rowsOf n t)
+  stands-at h e =
+      sym (find-at byteOrder byte-total r [] (rowsOf n t) k rises (omega (arith, rows-length n t)) (rw (rows-at n k t h) e))
+
+  pub goes-at : k ≤ n → ((j : ℕ) → suc j ≡ k → byteOrder r (rowAt t j) ≡ Greater) → (k < n → byteOrder r (rowAt t k) ≡ Less)
+      → Gap (row k) ≡ find byteOrder r (rowsOf n t)
+  goes-at h lo hi =
+      let l : length (rowsOf n t) ≡ n = rows-length n t in
+      sym
+      (find-gap byteOrder byte-total r [] (rowsOf n t) k rises (omega arith)
+      (λ j e. rw (rows-at n j t (omega arith)) (lo j e)) (λ b. rw (rows-at n k t (omega arith)) (hi (omega arith))))
 
 -- a turn of the loop over the roll, and its end
 pub roll-turn : (n i : ℕ) (t r : List ℕ) → i < n
-    → onRoll r (drop i (rowsOf n t)) ≡ (onOrder (byteOrder r (getD (rowsOf n t) i [])) false true false || onRoll r (drop (i + 1) (rowsOf n t)))
+    → onRoll r (drop i (rowsOf n t)) ≡ (isEqual (byteOrder r (rowAt t i)) || onRoll r (drop (i + 1) (rowsOf n t)))
 unfolding onRoll
 roll-turn n i t r h =
     let k : i < length (rowsOf n t) = omega (arith, rows-length n t) in
-    rw (drop-cons (rowsOf n t) i [] k, same-order, add-one)
+    rw (drop-cons (rowsOf n t) i [] k, rows-at n i t h, same-order r (rowAt t i), add-one)
 
 pub roll-end : (n i : ℕ) (t r : List ℕ) → n ≤ i → onRoll r (drop i (rowsOf n t)) ≡ false
 unfolding onRoll

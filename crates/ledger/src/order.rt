@@ -5,6 +5,7 @@ ghost use mathlib.Core.Path.{_≡_};
 ghost use Prim.Native.Nat.{_+_, _≤_};
 ghost use lib.ListN.{length, take, drop};
 ghost use Rattle.octets.specs.Numbers.{big};
+ghost use Rattle.ledger.specs.Sorted.{isLess, isEqual};
 ghost use Rattle.ledger.specs.Rows.{byteOrder};
 
 // How one row stands to another.
@@ -12,6 +13,28 @@ pub enum Order {
     Less,
     Equal,
     Greater,
+}
+
+impl Order {
+    pub fn is_less(self) -> bool
+        ensures { λ r. ⌜ r ≡ isLess self ⌝ }
+    {
+        match self {
+            Order::Less => true,
+            Order::Equal => false,
+            Order::Greater => false,
+        }
+    }
+
+    pub fn is_equal(self) -> bool
+        ensures { λ r. ⌜ r ≡ isEqual self ⌝ }
+    {
+        match self {
+            Order::Less => false,
+            Order::Equal => true,
+            Order::Greater => false,
+        }
+    }
 }
 
 // The number that the eight bytes at index at write.

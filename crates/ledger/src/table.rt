@@ -19,18 +19,11 @@ pub fn is_rising(table: &[u8], count: usize) -> bool
 {
     let mut i = 0;
     while i + 1 < count {
-        let o = compare(table, i * 32, table, (i + 1) * 32);
-        match o {
-            Order::Less => {
-                i += 1;
-            }
-            Order::Equal => {
-                return false;
-            }
-            Order::Greater => {
-                return false;
-            }
+        let rises = compare(table, i * 32, table, (i + 1) * 32).is_less();
+        if !rises {
+            return false;
         }
+        i += 1;
     }
     true
 }
@@ -83,7 +76,8 @@ fn shift(table: &mut [u8], from: usize, to: usize)
     }
 }
 
-// A row that stands nowhere yet, put in where it goes. That it has 32 bytes is told to the caller.
+// A row that stands nowhere yet, put in where it goes. That it has 32 bytes is told to the caller too,
+// who does not learn it from the type of what he hands on.
 fn enter_one(table: &mut [u8], count: usize, row: &[u8; 32])
     requires { ⌜ (count + 1) * 32 ≤ length (now table) ⌝ }
     requires { ⌜ rising byteOrder (rowsOf count (now table)) ≡ true ⌝ }
@@ -96,7 +90,7 @@ fn enter_one(table: &mut [u8], count: usize, row: &[u8; 32])
     octets::copy_in(table, at, row);
 }
 
-// Two rows put in where they go.
+// Two rows that differ and stand nowhere yet, put in where they go. The bytes past the new last row stay.
 pub fn enter_two(table: &mut [u8], count: usize, a: &[u8; 32], b: &[u8; 32])
     requires { ⌜ (count + 2) * 32 ≤ length (now table) ⌝ }
     requires { ⌜ rising byteOrder (rowsOf count (now table)) ≡ true ⌝ }

@@ -1,11 +1,9 @@
-use mathlib.Core.Path.{_≡_, refl, sym, ap, _∙_}
-use mathlib.Core.List.{List}
-use Prim.Native.Nat.{ℕ, _+_, _*_, _-_, _≤_}
+use mathlib.Core.Path.{_≡_, sym, _∙_}
+use Prim.Native.Nat.{_+_, _-_, _≤_}
 use native.Mathlib.Nat.{add-zero}
 use native.Mathlib.Omega.{arith}
-use lib.ListN.{length, take, drop}
+use lib.ListN.{take, drop}
 use Rattle.ledger.specs.Rows.{decided, byteOrder}
-use Rattle.ledger.specs.declared.order.Order.{Order}
 use Rattle.ledger.proofs.ByteOrder.{decided-below, decided-above, decided-level, fromWord, word-turn}
 use borrow.Author.Needs.{needs}
 use Rattle.ledger.proofs.order.compare.Statement.{statement}

@@ -1,10 +1,5 @@
-use mathlib.Core.Path.{_≡_, sym, ap, _∙_}
-use Prim.Native.Nat.{_+_}
-use mathlib.Core.List.{List}
 use native.Mathlib.Nat.{add-zero}
-use native.Mathlib.Omega.{arith}
 use Rattle.octets.specs.Parts.{listed, field}
-use Rattle.octets.specs.Numbers.{big}
 use Rattle.octets.proofs.PartLaws.{field-part}
 use borrow.Author.Needs.{needs}
 use Rattle.ledger.proofs.order.word.Statement.{statement}

@@ -1,14 +1,13 @@
 use mathlib.Core.Path.{_≡_, refl, sym, ap, _∙_}
-use mathlib.Core.Logic.{⊎-elim}
-use mathlib.Core.Bool.{Bool, true, false, _||_}
-use Prim.Native.Nat.{ℕ, _+_, _-_, _*_, _≤_}
+use mathlib.Core.Bool.{Bool, _||_}
+use mathlib.Core.List.{List}
+use Prim.Native.Nat.{ℕ, _+_, _-_, _≤_}
 use native.Mathlib.Omega.{arith}
 use lib.ListN.{drop}
-use Rattle.ledger.specs.Sorted.{onOrder}
-use Rattle.ledger.specs.Rows.{onRoll, rowsOf}
-use Rattle.ledger.specs.declared.order.Order.{Order}
-use Rattle.ledger.specs.declared.order.Order.the-variants.{Less, Equal, Greater}
-use Rattle.ledger.proofs.RowLaws.{row-order, roll-turn, roll-end}
+use lib.Seq.{take-all}
+use Rattle.ledger.specs.Sorted.{isEqual}
+use Rattle.ledger.specs.Rows.{byteOrder, rowAt, onRoll, rowsOf}
+use Rattle.ledger.proofs.RowLaws.{roll-turn, roll-end}
 use borrow.Author.Needs.{needs}
 use Rattle.ledger.proofs.roll.stands_on.Statement.{statement}
 use Rattle.ledger.proofs.roll.stands_on.Tie as tie
@@ -23,24 +22,25 @@ loop-holds : tie.Need-loop-holds Inv-loop μ-loop
 loop-holds c = (search needs, refl)
 
 -- what the order of the row and one of the roll says of the whole
-turn : (c : tie.After-compare Inv-loop μ-loop) (o : Order) → c .compare .result ≡ o
-    → let p = c .before .before .before in
+turn : (c : tie.After-is-equal Inv-loop μ-loop)
+    → let p = c .before .before .before .before in
     let a = p .before .before .args in
     let rows = rowsOf (a .count) (a .roll .now) in
-    onRoll (a .row .now) rows ≡ (onOrder o false true false || onRoll (a .row .now) (drop (p .loop .i + 1) rows))
-turn c o e =
-    let p = c .before .before .before in
+    onRoll (a .row .now) rows ≡ (c .is-equal .result || onRoll (a .row .now) (drop (p .loop .i + 1) rows))
+turn c =
+    let q = c .before .before in
+    let p = q .before .before in
     let a = p .before .before .args in
     let rest = onRoll (a .row .now) (drop (p .loop .i + 1) (rowsOf (a .count) (a .roll .now))) in
-    let told = c .compare .ensures ∙ row-order (a .count) (p .loop .i) (a .roll .now) (a .row .now) (omega arith) (c .before .compare-arg .given .0) in
+    let told = c .before .compare .ensures ∙ ap (λ (r : List ℕ). byteOrder r (rowAt (a .roll .now) (p .loop .i))) (take-all 32 (a .row .now) (omega (arith, q .compare-arg .given .0))) in
     p .loop .inv .1 ∙ roll-turn (a .count) (p .loop .i) (a .roll .now) (a .row .now) (omega arith)
-    ∙ ap (λ (q : Order). onOrder q false true false || rest) (sym told ∙ e)
+    ∙ ap (λ (b : Bool). b || rest) (sym (c .is-equal .ensures ∙ ap isEqual told))
 
 returns : tie.Need-returns Inv-loop μ-loop
-returns c = sym (turn (c .before .before) Equal (c .enum-told2 .given .1))
+returns c = sym (turn (c .before) ∙ rw (c .if1 .taken))
 
 loop-again : tie.Need-loop-again Inv-loop μ-loop
-loop-again c = (search needs, ⊎-elim (λ w. turn (c .before) Less (w .1 .given .1)) (λ w. turn (c .before) Greater (w .1 .given .1)) (c .match .came))
+loop-again c = (search needs, turn (c .before) ∙ rw (c .if1 .left))
 
 returns-2 : tie.Need-returns-2 Inv-loop μ-loop
 returns-2 c =
@@ -57,10 +57,8 @@ stands-on-spec =
     loop-holds
     (λ c. search needs)
     (λ c κs. search needs)
-    (λ c. search needs)
-    (λ c. search needs)
+    (λ c κs. search needs)
     returns
-    (λ c. search needs)
     (λ c. search needs)
     (λ c. search needs)
     loop-again

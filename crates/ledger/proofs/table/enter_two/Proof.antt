@@ -1,7 +1,6 @@
-use mathlib.Core.Path.{_≡_, sym, ap, _∙_}
+use mathlib.Core.Path.{ap, _∙_}
 use mathlib.Core.List.{List}
 use Prim.Native.Nat.{ℕ, _+_}
-use lib.ListN.{length}
 use Rattle.ledger.specs.Rows.{withRow}
 use Rattle.ledger.proofs.TableLaws.{second-room, second-rising, second-gap, entered-both}
 use borrow.Author.Needs.{needs}

@@ -1,12 +1,11 @@
 use mathlib.Core.Path.{_≡_, refl, sym, ap, _∙_}
-use mathlib.Core.Bool.{Bool, false}
-use Prim.Native.Nat.{ℕ, _+_, _-_, _*_, _≤_}
+use mathlib.Core.Bool.{Bool, _&&_}
+use Prim.Native.Nat.{_+_, _-_, _≤_}
 use native.Mathlib.Omega.{arith}
+use borrow.Author.Tests.{not-true, not-false}
 use lib.ListN.{drop}
-use Rattle.ledger.specs.Sorted.{onOrder, rising}
+use Rattle.ledger.specs.Sorted.{isLess, rising}
 use Rattle.ledger.specs.Rows.{byteOrder, rowsOf}
-use Rattle.ledger.specs.declared.order.Order.{Order}
-use Rattle.ledger.specs.declared.order.Order.the-variants.{Less, Equal, Greater}
 use Rattle.ledger.proofs.ByteOrder.{byte-total}
 use Rattle.ledger.proofs.Sorting.{rising-end}
 use Rattle.ledger.proofs.RowLaws.{rows-length, rising-turn}
@@ -24,29 +23,26 @@ loop-holds : tie.Need-loop-holds Inv-loop μ-loop
 loop-holds c = (search needs, refl)
 
 -- what the order of two neighbours says of the whole
-turn : (c : tie.After-compare Inv-loop μ-loop) (o : Order) → c .compare .result ≡ o
-    → let p = c .before .before in
+turn : (c : tie.After-is-less Inv-loop μ-loop)
+    → let p = c .before .before .before in
     let a = p .before .before .args in
     let rows = rowsOf (a .count) (a .table .now) in
-    rising byteOrder rows ≡ onOrder o (rising byteOrder (drop (p .loop .i + 1) rows)) false false
-turn c o e =
-    let p = c .before .before in
+    rising byteOrder rows ≡ (c .is-less .result && rising byteOrder (drop (p .loop .i + 1) rows))
+turn c =
+    let p = c .before .before .before in
     let a = p .before .before .args in
     let rest = rising byteOrder (drop (p .loop .i + 1) (rowsOf (a .count) (a .table .now))) in
     p .loop .inv .1 ∙ rising-turn (a .count) (p .loop .i) (a .table .now) (omega arith)
-    ∙ ap (λ (q : Order). onOrder q rest false false) (sym (c .compare .ensures) ∙ e)
-
-loop-again : tie.Need-loop-again Inv-loop μ-loop
-loop-again c = (search needs, turn (c .before .before) Less (c .enum-told .given .1))
+    ∙ ap (λ (b : Bool). b && rest) (sym (c .is-less .ensures ∙ ap isLess (c .before .compare .ensures)))
 
 returns : tie.Need-returns Inv-loop μ-loop
-returns c = sym (turn (c .before .before) Equal (c .enum-told2 .given .1))
+returns c = sym (turn (c .before) ∙ rw (not-true (c .before .is-less .result) (c .if1 .taken)))
+
+loop-again : tie.Need-loop-again Inv-loop μ-loop
+loop-again c = (search needs, turn (c .before) ∙ rw (not-false (c .before .is-less .result) (c .if1 .left)))
 
 returns-2 : tie.Need-returns-2 Inv-loop μ-loop
-returns-2 c = sym (turn (c .before .before) Greater (c .enum-told3 .given .1))
-
-returns-3 : tie.Need-returns-3 Inv-loop μ-loop
-returns-3 c =
+returns-2 c =
     let p = c .before in
     let a = p .before .before .args in
     let rows = rowsOf (a .count) (a .table .now) in
@@ -64,12 +60,9 @@ is-rising-spec =
     (λ c. search needs)
     (λ c. search needs)
     (λ c κs. search needs)
-    (λ c. search needs)
+    (λ c κs. search needs)
+    returns
     (λ c. search needs)
     (λ c. search needs)
     loop-again
-    (λ c. search needs)
-    returns
-    (λ c. search needs)
-    returns-2
-    returns-3)
+    returns-2)

@@ -40,17 +40,11 @@ pub fn be32_of(b0: u8, b1: u8, b2: u8, b3: u8) -> u32
     (b0 as u32) * 16777216 + (b1 as u32) * 65536 + (b2 as u32) * 256 + (b3 as u32)
 }
 
+// In two halves, since of a sum of eight the compiler makes no load.
 pub fn be64_of(b0: u8, b1: u8, b2: u8, b3: u8, b4: u8, b5: u8, b6: u8, b7: u8) -> u64
     ensures { λ r. ⌜ r ≡ big (b0 ∷ b1 ∷ b2 ∷ b3 ∷ b4 ∷ b5 ∷ b6 ∷ b7 ∷ []) ⌝ }
 {
-    (b0 as u64) * 72057594037927936
-        + (b1 as u64) * 281474976710656
-        + (b2 as u64) * 1099511627776
-        + (b3 as u64) * 4294967296
-        + (b4 as u64) * 16777216
-        + (b5 as u64) * 65536
-        + (b6 as u64) * 256
-        + (b7 as u64)
+    (be32_of(b0, b1, b2, b3) as u64) * 4294967296 + (be32_of(b4, b5, b6, b7) as u64)
 }
 
 // A number as bytes.

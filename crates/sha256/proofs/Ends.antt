@@ -1,28 +1,13 @@
 -- Copies into an array of zeros, one behind the other: a block from two halves, and the last blocks of a message.
 -- Assumes nothing.
-use mathlib.Core.Path.{_≡_, refl, sym, ap, ap₂, _∙_}
+use mathlib.Core.Path.{_≡_, refl, sym, ap, _∙_}
 use mathlib.Core.List.{List, [], _∷_, _++_, append-assoc, append-nil}
 use Prim.Native.Nat.{ℕ, suc, _+_, _-_, _≤_}
 use native.Mathlib.Omega.{arith}
-use lib.ListN.{length, drop, set, length-set, length-append, length-replicate, replicate-append-replicate}
-use lib.Seq.{take-at, drop-at, set-at}
+use lib.ListN.{length, set, length-set, length-append}
+use lib.Seq.{set-at}
 use Rattle.octets.specs.Parts.{zeros, pasted}
-use Rattle.octets.proofs.PartLaws.{pasted-is, pasted-length}
-
-zeros-length : (n : ℕ) → length (zeros n) ≡ n
-zeros-length n = length-replicate n 0
-
-zeros-append : (m n : ℕ) → zeros (m + n) ≡ zeros m ++ zeros n
-zeros-append m n = sym (replicate-append-replicate m n 0)
-
--- what is copied in takes the place of as many elements
-pasted-over : (p o q s : List ℕ) (at : ℕ) → length p ≡ at → length o ≡ length s → pasted at s (p ++ (o ++ q)) ≡ p ++ (s ++ q)
-pasted-over p o q s at hp ho =
-    let d = p ++ (o ++ q) in
-    let l : at + length s ≤ length d = omega (arith, length-append p (o ++ q), length-append o q) in
-    let k : length (p ++ o) ≡ at + length s = omega (arith, length-append p o) in
-    pasted-is at s d l
-    ∙ ap₂ (λ (x y : List ℕ). x ++ (s ++ y)) (take-at p (o ++ q) at hp) (ap (drop (at + length s)) (sym (append-assoc p o q)) ∙ drop-at (p ++ o) q (at + length s) k)
+use Rattle.octets.proofs.PartLaws.{zeros-length, zeros-append, pasted-over, pasted-length}
 
 pub halves : (l r a b : List ℕ) → length l ≡ 32 → length r ≡ 32 → a ≡ pasted 0 l (zeros 64) → b ≡ pasted 32 r a → b ≡ l ++ r
 halves l r a b hl hr p q =

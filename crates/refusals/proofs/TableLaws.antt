@@ -5,10 +5,10 @@ use mathlib.Core.Path.{_≡_, refl, sym, ap, _∙_}
 use mathlib.Core.Bool.{Bool, true, false, cond, not, _&&_, false≢true}
 use mathlib.Core.List.{List, [], _∷_, _++_, append-nil}
 use native.Mathlib.Omega.{arith}
-use borrow.Author.Tests.{eqb-true, eqb-false, ne-eqb}
+use borrow.Author.Tests.{eqb-true, eqb-false, not-true, not-false}
 use lib.Dec.{eqb}
 use Rattle.refusals.specs.declared.Answer.{Answer}
-use Rattle.refusals.specs.Table.{Row, answer, accepted, isAccepted, first, rowsIn, forEach, None, Decides, numbered}
+use Rattle.refusals.specs.Table.{Row, row, answer, accepted, isAccepted, first, rowsIn, forEach, None, Decides, numbered}
 
 -- a test is true or false
 pub by-test : {B : Type 0} (b : Bool) → (b ≡ true → B) → (b ≡ false → B) → B
@@ -32,10 +32,6 @@ module _ (r : Row) (rs : List Row) where
   pub numbered-here : numbered (r ∷ rs) ≡ true → r .number ≡ 0 → ⊥
   unfolding numbered
   numbered-here h e = eqb-false (r .number) 0 (not-true (eqb (r .number) 0) (and-both (not (eqb (r .number) 0)) (numbered rs) h .0)) e
-    where
-      not-true : (b : Bool) → not b ≡ true → b ≡ false
-      not-true true q = sym q
-      not-true false q = refl
 
   pub numbered-next : numbered (r ∷ rs) ≡ true → numbered rs ≡ true
   unfolding numbered
@@ -89,19 +85,30 @@ first-refused (r ∷ a) b h =
 pub first-passed : (a b : List Row) → numbered a ≡ true → isAccepted (first a) ≡ true → first (a ++ b) ≡ first b
 first-passed a b n h = none-above a b (first-none a n (eqb-true (first a .number) 0 h))
 
--- a function that asks one refusal after the other: where an answer refuses it is the whole answer, and where it does not the rest decides
-module _ (g : List Row) (gs : List (List Row)) (a : Answer) (e : a ≡ first g) where
-  pub stops : isAccepted a ≡ false → a ≡ first (rowsIn (g ∷ gs))
+-- a function that asks one refusal after the other, with b for whether its answer a to the refusal g accepts: where it does not, it is the whole
+-- answer, and where it does the rest decides
+module _ (g : List Row) (gs : List (List Row)) (a : Answer) (b : Bool) (e : a ≡ first g) (q : b ≡ isAccepted a) where
+  pub stops : not b ≡ true → a ≡ first (rowsIn (g ∷ gs))
   unfolding rowsIn
-  stops h = e ∙ sym (first-refused g (rowsIn gs) (ap isAccepted (sym e) ∙ h))
+  stops h = e ∙ sym (first-refused g (rowsIn gs) (ap isAccepted (sym e) ∙ sym q ∙ not-true b h))
 
-  pub goes-on : numbered g ≡ true → isAccepted a ≡ true → first (rowsIn (g ∷ gs)) ≡ first (rowsIn gs)
+  pub goes-on : numbered g ≡ true → not b ≡ false → first (rowsIn (g ∷ gs)) ≡ first (rowsIn gs)
   unfolding rowsIn
-  goes-on n h = first-passed g (rowsIn gs) n (ap isAccepted (sym e) ∙ h)
+  goes-on n h = first-passed g (rowsIn gs) n (ap isAccepted (sym e) ∙ sym q ∙ not-false b h)
 
 pub last-group : (g : List Row) → first g ≡ first (rowsIn (g ∷ []))
 unfolding rowsIn
 last-group g = ap first (sym (append-nil g))
+
+-- a refusal with one row
+module _ (test : Bool) (n p : ℕ) where
+  pub one-holds : test ≡ true → answer n p ≡ first (row test n p ∷ [])
+  unfolding first
+  one-holds h = rw h
+
+  pub one-fails : test ≡ false → accepted ≡ first (row test n p ∷ [])
+  unfolding first
+  one-fails h = rw h
 
 -- a refusal of a pair
 module _ (test : ℕ → Bool) (n : ℕ) where

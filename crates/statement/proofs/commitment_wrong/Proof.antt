@@ -1,0 +1,22 @@
+use Rattle.statement.specs.CaseTable.{commitmentWrong}
+use borrow.Author.Needs.{needs}
+use Rattle.statement.proofs.commitment_wrong.Statement.{statement}
+use Rattle.statement.proofs.commitment_wrong.Tie as tie
+use Rattle.sprout.proofs.commitment.Reads as commitment-reads′
+
+returns : tie.Need-returns
+unfolding commitmentWrong
+returns c = cc
+
+pub commitment-wrong-spec : {M : Type 1} → statement M
+commitment-wrong-spec =
+    tie.close
+    (tie.spec
+    (λ c κs. search needs)
+    (λ c κs. search needs)
+    (λ c κs. search needs)
+    (λ c κs. search needs)
+    (λ c κs. search needs)
+    (λ c κs. search needs)
+    (λ c κs. search needs)
+    returns)

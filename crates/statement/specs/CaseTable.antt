@@ -1,0 +1,95 @@
+-- Document 01's table of refusals, as far as it needs no ledger: the rows of each number, over a case's bytes. i is 1 or 2.
+-- Assumes nothing.
+use Prim.Native.Nat.{ℕ}
+use mathlib.Core.Bool.{Bool, not}
+use mathlib.Core.List.{List, [], _∷_}
+use Rattle.octets.specs.Parts.{same}
+use Rattle.refusals.specs.Table.{Row, row, rowsIn, forEach}
+use Rattle.sprout.specs.Hashes.{hasTopBits, addressFrom, nullifierFrom, macFrom, rhoFrom, commitmentFrom, hSigFrom}
+use Rattle.casefile.specs.Fields.{hasLength, vpubOldOf, vpubNewOf, anchorOf, nullifierOf, commitmentOf, seedOf, tagOf, transactionKeyOf, oldKeyOf, oldAddressOf, oldValueOf, oldRhoOf, oldTrapdoorOf, oldPositionOf, oldPathOf, newAddressOf, newValueOf, newRhoOf, newTrapdoorOf, phiOf}
+use Rattle.statement.specs.Conditions.{bothPublic, aboveMoney, outOfRange, strays, balanced, differs}
+
+-- the case is not 4,210 bytes long
+unfoldable pub no1 : List ℕ → List Row
+no1 c = row (not (hasLength c)) 1 0 ∷ []
+
+-- both public values are nonzero
+unfoldable pub no4 : List ℕ → List Row
+no4 c = row (bothPublic (vpubOldOf c) (vpubNewOf c)) 4 0 ∷ []
+
+-- a public value is above the highest: 1 the old, 2 the new
+unfoldable pub no5 : List ℕ → List Row
+no5 c = row (aboveMoney (vpubOldOf c)) 5 1 ∷ row (aboveMoney (vpubNewOf c)) 5 2 ∷ []
+
+-- the two nullifiers are equal
+unfoldable pub no7 : List ℕ → List Row
+no7 c = row (same (nullifierOf 1 c) (nullifierOf 2 c)) 7 0 ∷ []
+
+-- key or position i out of range; then phi's top four bits, at place 3
+unfoldable pub rangeOf : List ℕ → ℕ → Bool
+rangeOf c i = outOfRange (oldKeyOf i c) (oldPositionOf i c)
+
+unfoldable pub no9 : List ℕ → List Row
+no9 c = row (rangeOf c 1) 9 1 ∷ row (rangeOf c 2) 9 2 ∷ row (hasTopBits (phiOf c)) 9 3 ∷ []
+
+-- old note i has a value, and its path does not lead from its commitment to the anchor
+unfoldable pub oldCommitmentOf : ℕ → List ℕ → List ℕ
+oldCommitmentOf i c = commitmentFrom (oldAddressOf i c) (oldValueOf i c) (oldRhoOf i c) (oldTrapdoorOf i c)
+
+unfoldable pub straysOf : List ℕ → ℕ → Bool
+straysOf c i = strays (oldValueOf i c) (oldCommitmentOf i c) (oldPositionOf i c) (oldPathOf i c) (anchorOf c)
+
+unfoldable pub no10 : List ℕ → List Row
+no10 c = forEach (straysOf c) 10
+
+-- what goes in is not what comes out
+unfoldable pub balancedOf : List ℕ → Bool
+balancedOf c = balanced (vpubOldOf c) (oldValueOf 1 c) (oldValueOf 2 c) (vpubNewOf c) (newValueOf 1 c) (newValueOf 2 c)
+
+unfoldable pub no11 : List ℕ → List Row
+no11 c = row (not (balancedOf c)) 11 0 ∷ []
+
+-- nullifier i is not that of key i and rho i
+unfoldable pub nullifierWrong : List ℕ → ℕ → Bool
+nullifierWrong c i = differs (nullifierOf i c) (nullifierFrom (oldKeyOf i c) (oldRhoOf i c))
+
+unfoldable pub no12 : List ℕ → List Row
+no12 c = forEach (nullifierWrong c) 12
+
+-- a_pk i is not the address of key i
+unfoldable pub addressWrong : List ℕ → ℕ → Bool
+addressWrong c i = differs (oldAddressOf i c) (addressFrom (oldKeyOf i c))
+
+unfoldable pub no13 : List ℕ → List Row
+no13 c = forEach (addressWrong c) 13
+
+-- tag i is wrong
+unfoldable pub hSigOf : List ℕ → List ℕ
+hSigOf c = hSigFrom (seedOf c) (nullifierOf 1 c) (nullifierOf 2 c) (transactionKeyOf c)
+
+unfoldable pub tagWrong : List ℕ → ℕ → Bool
+tagWrong c i = differs (tagOf i c) (macFrom i (oldKeyOf i c) (hSigOf c))
+
+unfoldable pub no14 : List ℕ → List Row
+no14 c = forEach (tagWrong c) 14
+
+-- new rho i is wrong
+unfoldable pub rhoWrong : List ℕ → ℕ → Bool
+rhoWrong c i = differs (newRhoOf i c) (rhoFrom i (phiOf c) (hSigOf c))
+
+unfoldable pub no15 : List ℕ → List Row
+no15 c = forEach (rhoWrong c) 15
+
+-- commitment i is wrong
+unfoldable pub commitmentWrong : List ℕ → ℕ → Bool
+commitmentWrong c i = differs (commitmentOf i c) (commitmentFrom (newAddressOf i c) (newValueOf i c) (newRhoOf i c) (newTrapdoorOf i c))
+
+unfoldable pub no16 : List ℕ → List Row
+no16 c = forEach (commitmentWrong c) 16
+
+-- what the witness is asked, and the whole table of the case alone
+unfoldable pub witnessTable : List ℕ → List (List Row)
+witnessTable c = no9 c ∷ no10 c ∷ no11 c ∷ no12 c ∷ no13 c ∷ no14 c ∷ no15 c ∷ no16 c ∷ []
+
+unfoldable pub caseTable : List ℕ → List Row
+caseTable c = rowsIn (no1 c ∷ no4 c ∷ no5 c ∷ no7 c ∷ witnessTable c)

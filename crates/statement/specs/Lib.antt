@@ -1,0 +1,2 @@
+pub mod CaseTable
+pub mod Conditions

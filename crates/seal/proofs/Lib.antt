@@ -1,0 +1,4 @@
+mod Bits
+mod Marked
+pub mod PullLaws
+mod Zeros

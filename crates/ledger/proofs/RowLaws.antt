@@ -9,27 +9,15 @@ use native.Mathlib.Omega.{arith}
 use lib.ListN.{length, getD, take, drop, set, take-append-drop, drop-of-length-le, length-append, List·getD-append}
 use lib.Seq.{drop-cons, drop-drop, take-suc, take-add, take-take, take-append-le, drop-at, length-take-le, set-at, getD-take, append-snoc}
 use Rattle.octets.specs.Parts.{pasted}
+use Rattle.octets.specs.Rows.{rowsOf, flat}
 use Rattle.octets.proofs.PartLaws.{pasted-is}
+use Rattle.octets.proofs.RowLaws.{rows-length, rows-at, flat-append, flat-rows}
 use Rattle.ledger.specs.Sorted.{row, isLess, isEqual, placeOf, isGap, rising, find}
-use Rattle.ledger.specs.Rows.{byteOrder, rowAt, rowsOf, flat, shifted, withRow, onRoll}
+use Rattle.ledger.specs.Rows.{byteOrder, rowAt, shifted, withRow, onRoll}
 use Rattle.ledger.specs.declared.order.Order.the-variants.{Less, Equal, Greater}
 use Rattle.ledger.specs.declared.Found.the-variants.{At, Gap}
 use Rattle.ledger.proofs.ByteOrder.{byte-total, same-order}
 use Rattle.ledger.proofs.Sorting.{rising-step, find-at, find-gap, place-le, insert-gap}
-
-pub rows-length : (n : ℕ) (t : List ℕ) → length (rowsOf n t) ≡ n
-unfolding rowsOf
-rows-length zero t = refl
-rows-length (suc n) t = ap suc (rows-length n (drop 32 t))
-
--- row i of the first n
-pub rows-at : (n i : ℕ) (t : List ℕ) → i < n → getD (rowsOf n t) i [] ≡ rowAt t i
-unfolding rowsOf
-rows-at zero i t h = absurd (omega arith)
-rows-at (suc n) zero t h = refl
-rows-at (suc n) (suc i) t h =
-    let e : 32 + i * 32 ≡ suc i * 32 = omega arith in
-    rows-at n i (drop 32 t) (omega arith) ∙ rw (drop-drop (i * 32) 32 t, e)
 
 -- a turn of the loop that asks whether the rows rise: two neighbours decide
 pub rising-turn : (n i : ℕ) (t : List ℕ) → i + 1 < n
@@ -64,19 +52,6 @@ unfolding onRoll
 roll-end n i t r h =
     let k : length (rowsOf n t) ≤ i = omega (arith, rows-length n t) in
     rw (drop-of-length-le (rowsOf n t) k)
-
--- rows and their bytes
-flat-append : (k l : List (List ℕ)) → flat (k ++ l) ≡ flat k ++ flat l
-unfolding flat
-flat-append [] l = refl
-flat-append (r ∷ k) l = ap (λ (u : List ℕ). r ++ u) (flat-append k l) ∙ sym (append-assoc r (flat k) (flat l))
-
-pub flat-rows : (n : ℕ) (t : List ℕ) → flat (rowsOf n t) ≡ take (n * 32) t
-unfolding flat rowsOf
-flat-rows zero t = refl
-flat-rows (suc n) t =
-    let e : suc n * 32 ≡ 32 + n * 32 = omega arith in
-    rw (e, take-add 32 (n * 32) t, flat-rows n (drop 32 t))
 
 take-rows : (k n : ℕ) (t : List ℕ) → k ≤ n → take k (rowsOf n t) ≡ rowsOf k t
 unfolding rowsOf

@@ -8,28 +8,17 @@ use native.Mathlib.Omega.{arith}
 use lib.ListN.{length, drop, length-append, length-drop}
 use lib.Seq.{take-at, drop-at, drop-drop, drop-append-add, length-take-le}
 use Rattle.octets.specs.Parts.{same}
+use Rattle.octets.specs.Rows.{rowsOf, flat, Long}
+use Rattle.octets.proofs.RowLaws.{rows-length, rows-long, rows-flat-on, flat-length}
 use Rattle.ledger.specs.Sorted.{isGap, rising, find, insert}
-use Rattle.ledger.specs.Rows.{byteOrder, rowsOf, flat, withRow, entered, Fresh}
+use Rattle.ledger.specs.Rows.{byteOrder, withRow, entered, Fresh}
 use Rattle.ledger.specs.declared.order.Order.{Order}
 use Rattle.ledger.specs.declared.order.Order.the-variants.{Less, Equal, Greater}
 use Rattle.ledger.proofs.ByteOrder.{byte-total, differ-order}
 use Rattle.ledger.proofs.Sorting.{length-insert, gap-same, gap-insert, rising-insert, pairs-comm}
-use Rattle.ledger.proofs.RowLaws.{rows-length}
-
--- each row has 32 bytes
-abbrev pub Long : List (List ℕ) → Type 0
-Long [] = Unit {0}
-Long (r ∷ l) = (length r ≡ 32) × Long l
-
-pub long-rows : (n : ℕ) (t : List ℕ) → n * 32 ≤ length t → Long (rowsOf n t)
-unfolding rowsOf
-long-rows zero t h = tt
-long-rows (suc n) t h =
-    let k : n * 32 ≤ length (drop 32 t) = simp length-drop (omega arith) in
-    (length-take-le 32 t (omega arith), long-rows n (drop 32 t) k)
 
 pub long-insert : (x : List ℕ) (l : List (List ℕ)) → length x ≡ 32 → Long l → Long (insert byteOrder x l)
-unfolding insert
+unfolding insert Long
 long-insert x [] h g = (h, tt)
 long-insert x (y ∷ l) h g = go (byteOrder x y) refl (long-insert x l h (g .1))
   where
@@ -38,25 +27,13 @@ long-insert x (y ∷ l) h g = go (byteOrder x y) refl (long-insert x l h (g .1))
     go Equal o r = simp o g
     go Greater o r = simp o (g .0, r)
 
--- the bytes of rows are 32 for each, and the rows of those bytes are the rows
-pub flat-length : (l : List (List ℕ)) → Long l → length (flat l) ≡ length l * 32
-unfolding flat
-flat-length [] g = refl
-flat-length (r ∷ l) g = omega (arith, length-append r (flat l), flat-length l (g .1), g .0)
-
-pub rows-flat : (l : List (List ℕ)) (u : List ℕ) → Long l → rowsOf (length l) (flat l ++ u) ≡ l
-unfolding flat rowsOf
-rows-flat [] u g = refl
-rows-flat (r ∷ l) u g =
-    rw (append-assoc r (flat l) u, take-at r (flat l ++ u) 32 (g .0), drop-at r (flat l ++ u) 32 (g .0), rows-flat l u (g .1))
-
 -- one row put in
 module _ (n : ℕ) (t r : List ℕ) (room : (n + 1) * 32 ≤ length t) (long : length r ≡ 32) (gap : isGap (find byteOrder r (rowsOf n t)) ≡ true) where
   abbrev new : List (List ℕ)
   new = insert byteOrder r (rowsOf n t)
 
   new-long : Long new
-  new-long = long-insert r (rowsOf n t) long (long-rows n t (omega arith))
+  new-long = long-insert r (rowsOf n t) long (rows-long n t (omega arith))
 
   new-length : length new ≡ n + 1
   new-length = omega (arith, length-insert byteOrder byte-total r (rowsOf n t) gap, rows-length n t)
@@ -66,7 +43,7 @@ module _ (n : ℕ) (t r : List ℕ) (room : (n + 1) * 32 ≤ length t) (long : l
 
   pub rows-with : rowsOf (n + 1) (withRow n t r) ≡ insert byteOrder r (rowsOf n t)
   unfolding withRow
-  rows-with = rw (← new-length) (rows-flat new (drop (length new * 32) t) new-long)
+  rows-with = rw (← new-length) (rows-flat-on new (drop (length new * 32) t) new-long)
 
   pub length-with : length (withRow n t r) ≡ length t
   unfolding withRow
@@ -147,6 +124,7 @@ module _ (n : ℕ) (t a b : List ℕ) (room : (n + 2) * 32 ≤ length t) (long-a
 -- two pairs, each of which can be put in: the bytes are the same in either order
 pub either-order : (n : ℕ) (t a b c d : List ℕ) → (n + 4) * 32 ≤ length t → Long (a ∷ b ∷ c ∷ d ∷ []) → Fresh n t a b → Fresh n t c d
     → entered (n + 2) (entered n t a b) c d ≡ entered (n + 2) (entered n t c d) a b
+unfolding Long
 either-order n t a b c d room long f g =
     let la = long .0 in
     let lb = long .1 .0 in

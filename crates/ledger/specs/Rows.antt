@@ -1,12 +1,13 @@
 -- Rows of 32 bytes: their byte order, the rows of a table, and the table after two more were put in.
 -- Assumes nothing.
-use Prim.Native.Nat.{ℕ, zero, suc, _+_, _-_, _*_}
+use Prim.Native.Nat.{ℕ, _+_, _-_, _*_}
 use mathlib.Core.Path.{_≡_}
 use mathlib.Core.Bool.{Bool, true, false, cond, _||_}
 use mathlib.Core.List.{List, [], _∷_, _++_}
 use lib.ListN.{take, drop}
 use lib.Dec.{ltb}
 use Rattle.octets.specs.Parts.{same}
+use Rattle.octets.specs.Rows.{rowsOf, flat}
 use Rattle.ledger.specs.Sorted.{find, isGap, insert}
 use Rattle.ledger.specs.declared.order.Order.{Order}
 use Rattle.ledger.specs.declared.order.Order.the-variants.{Less, Equal, Greater}
@@ -25,16 +26,6 @@ byteOrder (x ∷ s) (y ∷ t) = decided x y (byteOrder s t)
 -- row i of a table
 abbrev pub rowAt : List ℕ → ℕ → List ℕ
 rowAt t i = take 32 (drop (i * 32) t)
-
--- the first n rows of a table
-unfoldable pub rowsOf : ℕ → List ℕ → List (List ℕ)
-rowsOf zero t = []
-rowsOf (suc n) t = take 32 t ∷ rowsOf n (drop 32 t)
-
--- the bytes of some rows
-unfoldable pub flat : List (List ℕ) → List ℕ
-flat [] = []
-flat (r ∷ l) = r ++ flat l
 
 -- the bytes from index i up to index j moved up by one row
 unfoldable pub shifted : List ℕ → ℕ → ℕ → List ℕ

@@ -4,7 +4,8 @@ use crate::order::compare;
 ghost use mathlib.Core.Path.{_≡_};
 ghost use Prim.Native.Nat.{_*_, _≤_};
 ghost use lib.ListN.{length};
-ghost use Rattle.ledger.specs.Rows.{rowsOf, onRoll};
+ghost use Rattle.octets.specs.Rows.{rowsOf};
+ghost use Rattle.ledger.specs.Rows.{onRoll};
 
 // Whether a row is among the first count.
 pub fn stands_on(roll: &[u8], count: usize, row: &[u8; 32]) -> bool

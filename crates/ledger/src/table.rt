@@ -9,8 +9,9 @@ ghost use mathlib.Core.Path.{_≡_};
 ghost use mathlib.Core.Bool.{true};
 ghost use Prim.Native.Nat.{_+_, _*_, _≤_};
 ghost use lib.ListN.{length};
+ghost use Rattle.octets.specs.Rows.{rowsOf};
 ghost use Rattle.ledger.specs.Sorted.{placeOf, isGap, rising, find};
-ghost use Rattle.ledger.specs.Rows.{byteOrder, rowsOf, shifted, withRow, entered, Fresh};
+ghost use Rattle.ledger.specs.Rows.{byteOrder, shifted, withRow, entered, Fresh};
 
 // Whether the first count rows strictly rise.
 pub fn is_rising(table: &[u8], count: usize) -> bool

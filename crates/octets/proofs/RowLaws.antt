@@ -1,8 +1,8 @@
 -- Rows of 32 bytes and the bytes that hold them.
 -- Assumes nothing.
 use Prim.Native.Nat.{ℕ, zero, suc, _+_, _-_, _*_, _<_, _≤_}
-use mathlib.Core.Path.{_≡_, refl, sym, ap, _∙_}
-use mathlib.Core.List.{List, [], _∷_, _++_, append-assoc}
+use mathlib.Core.Path.{_≡_, refl, sym, ap, ap₂, _∙_}
+use mathlib.Core.List.{List, [], _∷_, _++_, append-assoc, append-nil}
 use native.Mathlib.Omega.{arith}
 use lib.ListN.{length, getD, take, drop, length-append, length-drop}
 use lib.Seq.{take-at, drop-at, take-all, take-add, drop-drop, length-take-le}
@@ -68,13 +68,15 @@ flat-put n k t x h l =
     let m : length (drop ((k + 1) * 32) t) ≤ (n - (k + 1)) * 32 = omega (arith, length-drop ((k + 1) * 32) t) in
     rw (flat-append (take k (rowsOf n t)) (x ∷ drop (k + 1) (rowsOf n t)), take-rows k n t (omega arith), drop-rows (k + 1) n t (omega arith), flat-rows k t, flat-rows (n - (k + 1)) (drop ((k + 1) * 32) t), take-all ((n - (k + 1)) * 32) (drop ((k + 1) * 32) t) m, e)
 
--- rows made into bytes are read back
-pub rows-flat : (rs : List (List ℕ)) (n : ℕ) → n ≡ length rs → Long rs → rowsOf n (flat rs) ≡ rs
+-- rows made into bytes are read back, whatever stands behind them
+pub rows-flat-on : (rs : List (List ℕ)) (u : List ℕ) → Long rs → rowsOf (length rs) (flat rs ++ u) ≡ rs
 unfolding rowsOf flat Long
-rows-flat [] zero e h = refl
-rows-flat [] (suc n) e h = absurd (omega arith)
-rows-flat (r ∷ rs) zero e h = absurd (omega arith)
-rows-flat (r ∷ rs) (suc n) e h = rw (take-at r (flat rs) 32 (h .0), drop-at r (flat rs) 32 (h .0), rows-flat rs n (omega arith) (h .1))
+rows-flat-on [] u h = refl
+rows-flat-on (r ∷ rs) u h =
+    rw (append-assoc r (flat rs) u, take-at r (flat rs ++ u) 32 (h .0), drop-at r (flat rs ++ u) 32 (h .0), rows-flat-on rs u (h .1))
+
+pub rows-flat : (rs : List (List ℕ)) (n : ℕ) → n ≡ length rs → Long rs → rowsOf n (flat rs) ≡ rs
+rows-flat rs n e h = ap₂ rowsOf e (sym (append-nil (flat rs))) ∙ rows-flat-on rs [] h
 
 pub rows-long : (n : ℕ) (t : List ℕ) → n * 32 ≤ length t → Long (rowsOf n t)
 unfolding rowsOf Long

@@ -6,7 +6,8 @@ use native.Mathlib.Omega.{arith}
 use lib.ListN.{drop}
 use lib.Seq.{take-all}
 use Rattle.ledger.specs.Sorted.{isEqual}
-use Rattle.ledger.specs.Rows.{byteOrder, rowAt, onRoll, rowsOf}
+use Rattle.ledger.specs.Rows.{byteOrder, rowAt, onRoll}
+use Rattle.octets.specs.Rows.{rowsOf}
 use Rattle.ledger.proofs.RowLaws.{roll-turn, roll-end}
 use borrow.Author.Needs.{needs}
 use Rattle.ledger.proofs.roll.stands_on.Statement.{statement}

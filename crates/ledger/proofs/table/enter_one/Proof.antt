@@ -3,10 +3,12 @@ use Prim.Native.Nat.{_*_, _≤_}
 use native.Mathlib.Omega.{arith}
 use Rattle.octets.specs.Parts.{pasted}
 use Rattle.ledger.specs.Sorted.{placeOf, find}
-use Rattle.ledger.specs.Rows.{byteOrder, rowsOf}
+use Rattle.ledger.specs.Rows.{byteOrder}
+use Rattle.octets.specs.Rows.{rowsOf}
 use Rattle.ledger.proofs.ByteOrder.{byte-total}
 use Rattle.ledger.proofs.Sorting.{place-le}
-use Rattle.ledger.proofs.RowLaws.{rows-length, put-row}
+use Rattle.ledger.proofs.RowLaws.{put-row}
+use Rattle.octets.proofs.RowLaws.{rows-length}
 use borrow.Author.Needs.{needs}
 use Rattle.ledger.proofs.table.enter_one.Statement.{statement}
 use Rattle.ledger.proofs.table.enter_one.Tie as tie

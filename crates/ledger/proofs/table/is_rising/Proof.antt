@@ -5,10 +5,12 @@ use native.Mathlib.Omega.{arith}
 use borrow.Author.Tests.{not-true, not-false}
 use lib.ListN.{drop}
 use Rattle.ledger.specs.Sorted.{isLess, rising}
-use Rattle.ledger.specs.Rows.{byteOrder, rowsOf}
+use Rattle.ledger.specs.Rows.{byteOrder}
+use Rattle.octets.specs.Rows.{rowsOf}
 use Rattle.ledger.proofs.ByteOrder.{byte-total}
 use Rattle.ledger.proofs.Sorting.{rising-end}
-use Rattle.ledger.proofs.RowLaws.{rows-length, rising-turn}
+use Rattle.ledger.proofs.RowLaws.{rising-turn}
+use Rattle.octets.proofs.RowLaws.{rows-length}
 use borrow.Author.Needs.{needs}
 use Rattle.ledger.proofs.table.is_rising.Statement.{statement}
 use Rattle.ledger.proofs.table.is_rising.Tie as tie

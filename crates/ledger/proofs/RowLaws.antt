@@ -13,7 +13,7 @@ use Rattle.octets.specs.Rows.{rowsOf, flat}
 use Rattle.octets.proofs.PartLaws.{pasted-is}
 use Rattle.octets.proofs.RowLaws.{rows-length, rows-at, flat-append, flat-rows}
 use Rattle.ledger.specs.Sorted.{row, isLess, isEqual, placeOf, isGap, rising, find}
-use Rattle.ledger.specs.Rows.{byteOrder, rowAt, shifted, withRow, onRoll}
+use Rattle.ledger.specs.Rows.{byteOrder, rowAt, shifted, withRow, among}
 use Rattle.ledger.specs.declared.order.Order.the-variants.{Less, Equal, Greater}
 use Rattle.ledger.specs.declared.Found.the-variants.{At, Gap}
 use Rattle.ledger.proofs.ByteOrder.{byte-total, same-order}
@@ -41,14 +41,14 @@ module _ (n k : ℕ) (t r : List ℕ) (rises : rising byteOrder (rowsOf n t) ≡
 
 -- a turn of the loop over the roll, and its end
 pub roll-turn : (n i : ℕ) (t r : List ℕ) → i < n
-    → onRoll r (drop i (rowsOf n t)) ≡ (isEqual (byteOrder r (rowAt t i)) || onRoll r (drop (i + 1) (rowsOf n t)))
-unfolding onRoll
+    → among r (drop i (rowsOf n t)) ≡ (isEqual (byteOrder r (rowAt t i)) || among r (drop (i + 1) (rowsOf n t)))
+unfolding among
 roll-turn n i t r h =
     let k : i < length (rowsOf n t) = omega (arith, rows-length n t) in
     rw (drop-cons (rowsOf n t) i [] k, rows-at n i t h, same-order r (rowAt t i), add-one)
 
-pub roll-end : (n i : ℕ) (t r : List ℕ) → n ≤ i → onRoll r (drop i (rowsOf n t)) ≡ false
-unfolding onRoll
+pub roll-end : (n i : ℕ) (t r : List ℕ) → n ≤ i → among r (drop i (rowsOf n t)) ≡ false
+unfolding among
 roll-end n i t r h =
     let k : length (rowsOf n t) ≤ i = omega (arith, rows-length n t) in
     rw (drop-of-length-le (rowsOf n t) k)

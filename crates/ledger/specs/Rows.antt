@@ -46,6 +46,6 @@ pub record Fresh (n : ℕ) (t a b : List ℕ) : Type 0 where
   pub gap-b : isGap (find byteOrder b (rowsOf n t)) ≡ true
 
 -- whether a row is among some rows
-unfoldable pub onRoll : List ℕ → List (List ℕ) → Bool
-onRoll r [] = false
-onRoll r (x ∷ l) = same r x || onRoll r l
+unfoldable pub among : List ℕ → List (List ℕ) → Bool
+among r [] = false
+among r (x ∷ l) = same r x || among r l

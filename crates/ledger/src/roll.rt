@@ -5,12 +5,12 @@ ghost use mathlib.Core.Path.{_≡_};
 ghost use Prim.Native.Nat.{_*_, _≤_};
 ghost use lib.ListN.{length};
 ghost use Rattle.octets.specs.Rows.{rowsOf};
-ghost use Rattle.ledger.specs.Rows.{onRoll};
+ghost use Rattle.ledger.specs.Rows.{among};
 
 // Whether a row is among the first count.
 pub fn stands_on(roll: &[u8], count: usize, row: &[u8; 32]) -> bool
     requires { ⌜ count * 32 ≤ length (now roll) ⌝ }
-    ensures { λ r. ⌜ r ≡ onRoll (now (row .entry)) (rowsOf count (now (roll .entry))) ⌝ }
+    ensures { λ r. ⌜ r ≡ among (now (row .entry)) (rowsOf count (now (roll .entry))) ⌝ }
 {
     let mut i = 0;
     while i < count {

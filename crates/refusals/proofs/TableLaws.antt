@@ -110,6 +110,9 @@ module _ (test : Bool) (n p : ℕ) where
   unfolding first
   one-fails h = rw h
 
+  pub one-passed : (n ≡ 0 → ⊥) → isAccepted (first (row test n p ∷ [])) ≡ true → test ≡ false
+  one-passed z h = by-test test (λ e. absurd (z (eqb-true n 0 (ap isAccepted (one-holds e) ∙ h)))) (λ e. e)
+
 -- a refusal of a pair
 module _ (test : ℕ → Bool) (n : ℕ) where
   pub each-first : test 1 ≡ true → answer n 1 ≡ first (forEach test n)

@@ -7,10 +7,10 @@ use mathlib.Core.Bool.{Bool, true, false, cond, not, _&&_, Bool·beq, false≢tr
 use mathlib.Core.List.{List, [], _∷_}
 use native.Mathlib.Omega.{arith}
 use native.Mathlib.Nat.{eq-or-lt-of-le}
-use borrow.Author.Tests.{ne-eqb, leb-true, le-leb, lt-leb}
+use borrow.Author.Tests.{ne-eqb, not-true, leb-true, leb-false, le-leb, lt-leb}
 use lib.Dec.{eqb, leb}
 use Rattle.refusals.specs.declared.Answer.{Answer}
-use Rattle.refusals.specs.Table.{Row, answer, isAccepted, first, numbered, lower}
+use Rattle.refusals.specs.Table.{Row, answer, isAccepted, first, numbered, lower, refusesUpTo}
 use Rattle.refusals.proofs.TableLaws.{by-test, and-both, first-here, first-next, numbered-here, numbered-next}
 
 -- the numbers never fall
@@ -41,6 +41,71 @@ same-or-not true true = inl refl
 same-or-not true false = inr refl
 same-or-not false true = inr refl
 same-or-not false false = inl refl
+
+-- the lower of an answer and one that gives way to it
+lower-left : (a b : Answer) → (a .number ≡ 0 → ⊥) → (isAccepted b ≡ true) ⊎ (a .number < b .number) → lower a b ≡ a
+lower-left a b n (inl h) = rw h
+lower-left a b n (inr h) =
+    let z : b .number ≡ 0 → ⊥ = λ e. omega arith in
+    rw (ne-eqb (b .number) 0 z, ne-eqb (a .number) 0 n, le-leb (a .number) (b .number) (omega arith))
+
+lower-right : (a b : Answer) → (b .number ≡ 0 → ⊥) → (isAccepted a ≡ true) ⊎ (b .number < a .number) → lower a b ≡ b
+lower-right a b n (inl h) = rw (ne-eqb (b .number) 0 n, h)
+lower-right a b n (inr h) =
+    let z : a .number ≡ 0 → ⊥ = λ e. omega arith in
+    rw (ne-eqb (b .number) 0 n, ne-eqb (a .number) 0 z, lt-leb (a .number) (b .number) h)
+
+-- one who asks for himself with an answer in hand: he keeps it where it refuses with a number up to that of every row left, gives up on it where a
+-- row with a lower number refuses, and has it still where none does
+unfoldable pub allFrom : ℕ → List Row → Bool
+allFrom n [] = true
+allFrom n (r ∷ rs) = leb n (r .number) && allFrom n rs
+
+all-first : (n : ℕ) (rs : List Row) → allFrom n rs ≡ true → (isAccepted (first rs) ≡ true) ⊎ (n ≤ first rs .number)
+unfolding allFrom first
+all-first n [] h = inl refl
+all-first n (r ∷ rs) h =
+    let p = and-both (leb n (r .number)) (allFrom n rs) h in
+    by-test (r .applies)
+    (λ e. rw (first-here r rs e) (inr (leb-true n (r .number) (p .0))))
+    (λ e. rw (first-next r rs e) (all-first n rs (p .1)))
+
+unfoldable pub allUpTo : ℕ → List Row → Bool
+allUpTo n [] = true
+allUpTo n (r ∷ rs) = leb (r .number) n && allUpTo n rs
+
+up-to-first : (n : ℕ) (rs : List Row) → allUpTo n rs ≡ true → first rs .number ≤ n
+unfolding allUpTo first
+up-to-first n [] h = omega arith
+up-to-first n (r ∷ rs) h =
+    let p = and-both (leb (r .number) n) (allUpTo n rs) h in
+    by-test (r .applies)
+    (λ e. rw (first-here r rs e) (leb-true (r .number) n (p .0)))
+    (λ e. rw (first-next r rs e) (up-to-first n rs (p .1)))
+
+refuses : (n : ℕ) (a : Answer) → refusesUpTo n a ≡ true → (isAccepted a ≡ false) × (a .number ≤ n)
+refuses n a h =
+    let p = and-both (not (isAccepted a)) (leb (a .number) n) h in
+    (not-true (isAccepted a) (p .0), leb-true (a .number) n (p .1))
+
+pub keeps : (n : ℕ) (own : Answer) (rs : List Row) → refusesUpTo n own ≡ true → allFrom n rs ≡ true → own ≡ lower own (first rs)
+keeps n own rs h k = go (refuses n own h) (all-first n rs k)
+  where
+    go : (isAccepted own ≡ false) × (own .number ≤ n) → (isAccepted (first rs) ≡ true) ⊎ (n ≤ first rs .number) → own ≡ lower own (first rs)
+    go (a, l) (inl e) = rw e
+    go (a, l) (inr m) =
+        by-test (isAccepted (first rs)) (λ e. rw e) (λ e. rw (e, a, le-leb (own .number) (first rs .number) (omega arith)))
+
+pub gives-up : (n : ℕ) (own : Answer) (g : List Row) (b : Answer) → refusesUpTo n own ≡ false → allUpTo n g ≡ true → b ≡ first g → isAccepted b ≡ false → b ≡ lower own b
+gives-up n own g b h u q k =
+    by-test (isAccepted own)
+    (λ e. rw (k, e))
+    (λ e. let m : n < own .number = leb-false (own .number) n (sym (ap (λ (t : Bool). not t && leb (own .number) n) e) ∙ h) in
+    let l : b .number ≤ n = rw q (up-to-first n g u) in
+    rw (k, e, lt-leb (own .number) (b .number) (omega arith)))
+
+pub has-still : (own b : Answer) → isAccepted b ≡ true → own ≡ lower own b
+has-still own b h = rw h
 
 module _ (ours : ℕ → Bool) where
   -- the rows of one asker
@@ -88,19 +153,6 @@ module _ (ours : ℕ → Bool) where
       go : (r .number ≡ a .number) ⊎ (r .number < a .number) → (isAccepted a ≡ true) ⊎ (r .number < a .number)
       go (inl q) = absurd (differ b (sym s ∙ ap ours (sym q) ∙ e))
       go (inr q) = inr q
-
-  -- the lower of an answer and one that gives way to it
-  lower-left : (a b : Answer) → (a .number ≡ 0 → ⊥) → (isAccepted b ≡ true) ⊎ (a .number < b .number) → lower a b ≡ a
-  lower-left a b n (inl h) = rw (ne-eqb (a .number) 0 n, h)
-  lower-left a b n (inr h) =
-      let z : b .number ≡ 0 → ⊥ = λ e. omega arith in
-      rw (ne-eqb (a .number) 0 n, ne-eqb (b .number) 0 z, le-leb (a .number) (b .number) (omega arith))
-
-  lower-right : (a b : Answer) → (b .number ≡ 0 → ⊥) → (isAccepted a ≡ true) ⊎ (b .number < a .number) → lower a b ≡ b
-  lower-right a b n (inl h) = rw h
-  lower-right a b n (inr h) =
-      let z : a .number ≡ 0 → ⊥ = λ e. omega arith in
-      rw (ne-eqb (a .number) 0 z, ne-eqb (b .number) 0 n, lt-leb (a .number) (b .number) h)
 
   pub first-lower : (rs : List Row) → neverFalls rs ≡ true → numbered rs ≡ true → first rs ≡ lower (first (those true rs)) (first (those false rs))
   unfolding those first

@@ -60,4 +60,8 @@ numbered (r ∷ rs) = not (eqb (r .number) 0) && numbered rs
 
 -- the answer with the lower number; an acceptance gives way
 abbrev pub lower : Answer → Answer → Answer
-lower a b = cond (isAccepted a) b (cond (isAccepted b) a (cond (leb (a .number) (b .number)) a b))
+lower a b = cond (isAccepted b) a (cond (isAccepted a) b (cond (leb (a .number) (b .number)) a b))
+
+-- an answer refuses, with a number up to n
+abbrev pub refusesUpTo : ℕ → Answer → Bool
+refusesUpTo n a = not (isAccepted a) && leb (a .number) n

@@ -2,7 +2,7 @@
 // that applies. The laws about such tables stand in proofs/TableLaws.antt.
 // Which rows there are is left to the crates that know a case or a ledger.
 ghost use mathlib.Core.Path.{_≡_};
-ghost use Rattle.refusals.specs.Table.{accepted as acceptedOf, answer, isAccepted};
+ghost use Rattle.refusals.specs.Table.{accepted as acceptedOf, answer, isAccepted, refusesUpTo};
 
 // The number of a refusal and its place, or 0 and 0.
 pub struct Answer {
@@ -30,5 +30,15 @@ impl Answer {
         ensures { λ r. ⌜ r ≡ isAccepted self ⌝ }
     {
         self.number == 0
+    }
+
+    // Whether it refuses with a number up to this one.
+    pub fn refuses_up_to(self, number: u8) -> bool
+        ensures { λ r. ⌜ r ≡ refusesUpTo number self ⌝ }
+    {
+        if self.number == 0 {
+            return false;
+        }
+        self.number <= number
     }
 }

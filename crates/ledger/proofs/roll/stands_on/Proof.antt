@@ -6,7 +6,7 @@ use native.Mathlib.Omega.{arith}
 use lib.ListN.{drop}
 use lib.Seq.{take-all}
 use Rattle.ledger.specs.Sorted.{isEqual}
-use Rattle.ledger.specs.Rows.{byteOrder, rowAt, onRoll}
+use Rattle.ledger.specs.Rows.{byteOrder, rowAt, among}
 use Rattle.octets.specs.Rows.{rowsOf}
 use Rattle.ledger.proofs.RowLaws.{roll-turn, roll-end}
 use borrow.Author.Needs.{needs}
@@ -14,7 +14,7 @@ use Rattle.ledger.proofs.roll.stands_on.Statement.{statement}
 use Rattle.ledger.proofs.roll.stands_on.Tie as tie
 
 abbrev Inv-loop : tie.InvT-loop
-Inv-loop roll count row i₀ i = (i ≤ count) × (onRoll row (rowsOf count roll) ≡ onRoll row (drop i (rowsOf count roll)))
+Inv-loop roll count row i₀ i = (i ≤ count) × (among row (rowsOf count roll) ≡ among row (drop i (rowsOf count roll)))
 
 abbrev μ-loop : tie.MeasureT-loop
 μ-loop roll count row i₀ i = count - i
@@ -27,12 +27,12 @@ turn : (c : tie.After-is-equal Inv-loop μ-loop)
     → let p = c .before .before .before .before in
     let a = p .before .before .args in
     let rows = rowsOf (a .count) (a .roll .now) in
-    onRoll (a .row .now) rows ≡ (c .is-equal .result || onRoll (a .row .now) (drop (p .loop .i + 1) rows))
+    among (a .row .now) rows ≡ (c .is-equal .result || among (a .row .now) (drop (p .loop .i + 1) rows))
 turn c =
     let q = c .before .before in
     let p = q .before .before in
     let a = p .before .before .args in
-    let rest = onRoll (a .row .now) (drop (p .loop .i + 1) (rowsOf (a .count) (a .roll .now))) in
+    let rest = among (a .row .now) (drop (p .loop .i + 1) (rowsOf (a .count) (a .roll .now))) in
     let told = c .before .compare .ensures ∙ ap (λ (r : List ℕ). byteOrder r (rowAt (a .roll .now) (p .loop .i))) (take-all 32 (a .row .now) (omega (arith, q .compare-arg .given .0))) in
     p .loop .inv .1 ∙ roll-turn (a .count) (p .loop .i) (a .roll .now) (a .row .now) (omega arith)
     ∙ ap (λ (b : Bool). b || rest) (sym (c .is-equal .ensures ∙ ap isEqual told))

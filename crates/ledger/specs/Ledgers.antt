@@ -1,0 +1,118 @@
+-- The ledger: room, damage, what it refuses, and what opening, closing a block and an accepted case make of it. t is the nullifier table's lent
+-- bytes, r the anchor roll's, l the counts, record and pool.
+-- Assumes nothing.
+use Prim.Native.Nat.{ℕ, _+_, _*_, _/_, _%_, _^_, _≤_, _<_, min}
+use mathlib.Core.Path.{_≡_}
+use mathlib.Core.Bool.{Bool, true, false, cond, not, _||_}
+use mathlib.Core.List.{List, [], _∷_}
+use lib.Dec.{eqb, ltb, leb}
+use lib.IntN.{ℤ, pos, natAbs, _+ℤ_, _-ℤ_}
+use lib.ListN.{length}
+use Rattle.octets.specs.Parts.{zeros, pasted}
+use Rattle.octets.specs.Rows.{rowsOf}
+use Rattle.units.specs.Limits.{maxMoney}
+use Rattle.refusals.specs.Table.{Row, row, rowsIn, first, isAccepted}
+use Rattle.nodes.specs.CommitmentTree.{treeRoot}
+use Rattle.tree.specs.Record.{freshOf, grown, recordRoot}
+use Rattle.ledger.specs.declared.Ledger.{Ledger}
+use Rattle.ledger.specs.Sorted.{rising}
+use Rattle.ledger.specs.Rows.{byteOrder, Fresh, entered, among}
+
+-- how many rows a lent length holds, and at most so many
+abbrev pub mostNullifiers : ℕ
+mostNullifiers = 2048
+
+abbrev pub mostAnchors : ℕ
+mostAnchors = 1024
+
+unfoldable pub roomIn : ℕ → ℕ → ℕ
+roomIn most len = min (len / 32) most
+
+-- the rows in use
+unfoldable pub spentRows : List ℕ → Ledger → List (List ℕ)
+spentRows t l = rowsOf (l .nullifiers) t
+
+unfoldable pub anchorRows : List ℕ → Ledger → List (List ℕ)
+anchorRows r l = rowsOf (l .anchors) r
+
+-- damage: any of these, and nothing else
+unfoldable pub damage : List ℕ → List ℕ → Ledger → List Bool
+damage t r l =
+    not (eqb (l .nullifiers % 2) 0)
+    ∷ ltb (roomIn mostNullifiers (length t)) (l .nullifiers)
+    ∷ not (rising byteOrder (spentRows t l))
+    ∷ not (eqb (l .tree .leaves) (l .nullifiers))
+    ∷ eqb (l .anchors) 0
+    ∷ ltb (roomIn mostAnchors (length r)) (l .anchors)
+    ∷ ltb (l .nullifiers / 2 * maxMoney) (natAbs (l .pool .0))
+    ∷ []
+
+unfoldable pub some : List Bool → Bool
+some [] = false
+some (b ∷ bs) = b || some bs
+
+unfoldable pub damaged : List ℕ → List ℕ → Ledger → Bool
+damaged t r l = some (damage t r l)
+
+-- what a ledger refuses of a case's public part: its anchor and its two nullifiers
+unfoldable pub no2 : List ℕ → List ℕ → Ledger → List Row
+no2 t r l = row (damaged t r l) 2 0 ∷ []
+
+-- fewer than two free nullifier rows
+unfoldable pub no3 : List ℕ → Ledger → List Row
+no3 t l = row (ltb (roomIn mostNullifiers (length t)) (l .nullifiers + 2)) 3 0 ∷ []
+
+-- the anchor is not on the roll
+unfoldable pub no6 : List ℕ → Ledger → List ℕ → List Row
+no6 r l anchor = row (not (among anchor (anchorRows r l))) 6 0 ∷ []
+
+-- nullifier i is in the table
+unfoldable pub no8 : List ℕ → Ledger → List ℕ → List ℕ → List Row
+no8 t l one two = row (among one (spentRows t l)) 8 1 ∷ row (among two (spentRows t l)) 8 2 ∷ []
+
+unfoldable pub ledgerTable : List ℕ → List ℕ → Ledger → List ℕ → List ℕ → List ℕ → List Row
+ledgerTable t r l anchor one two = rowsIn (no2 t r l ∷ no3 t l ∷ no6 r l anchor ∷ no8 t l one two ∷ [])
+
+-- ENTERING an accepted case: both nullifiers, then commitment 1 and commitment 2, then the public values
+unfoldable pub enteredOf : Ledger → List ℕ → List ℕ → ℕ → ℕ → Ledger
+enteredOf l commitment1 commitment2 old new =
+    record {
+      nullifiers = l .nullifiers + 2;
+      anchors = l .anchors;
+      tree = grown (l .tree) (commitment1 ∷ commitment2 ∷ []);
+      pool = record { 0 = l .pool .0 +ℤ pos old -ℤ pos new };
+    }
+
+-- what has to hold before: room, order, two new nullifiers, and a pool that stays within what is counted
+pub record Ready (t : List ℕ) (l : Ledger) (one two : List ℕ) (old new : ℕ) : Type 0 where
+  pub room : l .nullifiers + 2 ≤ roomIn mostNullifiers (length t)
+  pub rises : rising byteOrder (spentRows t l) ≡ true
+  pub fresh : Fresh (l .nullifiers) t one two
+  pub pool : natAbs (l .pool .0) + old + new < 2 ^ 63
+
+-- CLOSING a block: damage, then no free row of the roll; else the current root is the roll's next row
+unfoldable pub closeTable : List ℕ → List ℕ → Ledger → List Row
+closeTable t r l = rowsIn (no2 t r l ∷ (row (leb (roomIn mostAnchors (length r)) (l .anchors)) 3 0 ∷ []) ∷ [])
+
+unfoldable pub closedOf : List ℕ → List ℕ → Ledger → Ledger
+closedOf t r l =
+    cond (isAccepted (first (closeTable t r l))) (record { nullifiers = l .nullifiers; anchors = l .anchors + 1; tree = l .tree; pool = l .pool }) l
+
+unfoldable pub rollAfterClose : List ℕ → List ℕ → Ledger → List ℕ
+rollAfterClose t r l = cond (isAccepted (first (closeTable t r l))) (pasted (l .anchors * 32) (recordRoot (l .tree)) r) r
+
+-- OPENING a fresh ledger: no leaf, no nullifier, pool 0, and one anchor, the empty tree's root; refused where the roll has no row
+unfoldable pub startOf : ℕ → Ledger
+startOf anchors = record { nullifiers = 0; anchors = anchors; tree = freshOf; pool = record { 0 = pos 0 } }
+
+abbrev pub freshLedger : Ledger
+freshLedger = startOf 1
+
+unfoldable pub openTable : List ℕ → List Row
+openTable r = row (eqb (roomIn mostAnchors (length r)) 0) 1 0 ∷ []
+
+unfoldable pub openedOf : List ℕ → Ledger
+openedOf r = cond (isAccepted (first (openTable r))) freshLedger (startOf 0)
+
+unfoldable pub rollAfterOpen : List ℕ → List ℕ
+rollAfterOpen r = cond (isAccepted (first (openTable r))) (pasted 0 (treeRoot []) r) r

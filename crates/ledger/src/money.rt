@@ -1,0 +1,51 @@
+// The pool's arithmetic: a signed number and amounts, exact. That nothing leaves the range is required
+// of the callers, all of them in this crate.
+use crate::Pool;
+use units::Amount;
+ghost use mathlib.Core.Path.{_≡_};
+ghost use Prim.Native.Nat.{_+_, _<_, _^_};
+ghost use lib.IntN.{pos, natAbs, _+ℤ_, _-ℤ_};
+
+// What is put in.
+fn plus(p: i64, a: u64) -> i64
+    requires { ⌜ natAbs p + a < 2 ^ 63 ⌝ }
+    ensures { λ r. ⌜ r ≡ p +ℤ pos a ⌝ }
+{
+    p + (a as i64)
+}
+
+// What is taken out.
+fn minus(p: i64, a: u64) -> i64
+    requires { ⌜ natAbs p + a < 2 ^ 63 ⌝ }
+    ensures { λ r. ⌜ r ≡ p -ℤ pos a ⌝ }
+{
+    p - (a as i64)
+}
+
+// How far a number is from zero; of the least number too, which has no negative of its own.
+fn distance(p: i64) -> u64
+    ensures { λ r. ⌜ r ≡ natAbs p ⌝ }
+{
+    if p < 0 {
+        ((-1 - p) as u64) + 1
+    } else {
+        p as u64
+    }
+}
+
+// How far the pool is from zero.
+pub fn size(pool: Pool) -> u64
+    ensures { λ r. ⌜ r ≡ natAbs (pool .0) ⌝ }
+{
+    let p = pool.0;
+    distance(p)
+}
+
+// The pool with what a case puts in, less what it takes out.
+pub fn moved(pool: Pool, old: Amount, new: Amount) -> Pool
+    requires { ⌜ natAbs (pool .0) + old .0 + new .0 < 2 ^ 63 ⌝ }
+    ensures { λ r. ⌜ r .0 ≡ pool .0 +ℤ pos (old .0) -ℤ pos (new .0) ⌝ }
+{
+    let p = pool.0;
+    Pool(minus(plus(p, old.0), new.0))
+}

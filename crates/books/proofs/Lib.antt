@@ -1,0 +1,3 @@
+pub mod DayLaws
+pub mod HistoryLaws
+pub mod TallyLaws

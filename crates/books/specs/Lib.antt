@@ -1,0 +1,3 @@
+pub mod DayList
+pub mod History
+pub mod Tally

@@ -3,7 +3,7 @@
 use Prim.Native.Nat.{ℕ}
 use mathlib.Core.Path.{_≡_, refl, sym, ap, _∙_}
 use mathlib.Core.Bool.{Bool, true, false, cond, not, _&&_, false≢true}
-use mathlib.Core.List.{List, [], _∷_, _++_, append-nil}
+use mathlib.Core.List.{List, [], _∷_, _++_, append-nil, append-assoc}
 use native.Mathlib.Omega.{arith}
 use borrow.Author.Tests.{eqb-true, eqb-false, not-true, not-false}
 use lib.Dec.{eqb}
@@ -95,6 +95,19 @@ module _ (g : List Row) (gs : List (List Row)) (a : Answer) (b : Bool) (e : a �
   pub goes-on : numbered g ≡ true → not b ≡ false → first (rowsIn (g ∷ gs)) ≡ first (rowsIn gs)
   unfolding rowsIn
   goes-on n h = first-passed g (rowsIn gs) n (ap isAccepted (sym e) ∙ sym q ∙ not-false b h)
+
+pub rows-append : (gs hs : List (List Row)) → rowsIn (gs ++ hs) ≡ rowsIn gs ++ rowsIn hs
+unfolding rowsIn
+rows-append [] hs = refl
+rows-append (g ∷ gs) hs = ap (λ (l : List Row). g ++ l) (rows-append gs hs) ∙ sym (append-assoc g (rowsIn gs) (rowsIn hs))
+
+-- the same for a function that asks a run of refusals at once
+module _ (gs hs : List (List Row)) (a : Answer) (b : Bool) (e : a ≡ first (rowsIn gs)) (q : b ≡ isAccepted a) where
+  pub run-stops : not b ≡ true → a ≡ first (rowsIn (gs ++ hs))
+  run-stops h = rw (rows-append gs hs) (e ∙ sym (first-refused (rowsIn gs) (rowsIn hs) (ap isAccepted (sym e) ∙ sym q ∙ not-true b h)))
+
+  pub run-goes-on : numbered (rowsIn gs) ≡ true → not b ≡ false → first (rowsIn (gs ++ hs)) ≡ first (rowsIn hs)
+  run-goes-on n h = rw (rows-append gs hs) (first-passed (rowsIn gs) (rowsIn hs) n (ap isAccepted (sym e) ∙ sym q ∙ not-false b h))
 
 pub last-group : (g : List Row) → first g ≡ first (rowsIn (g ∷ []))
 unfolding rowsIn

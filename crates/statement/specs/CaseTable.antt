@@ -87,7 +87,10 @@ commitmentWrong c i = differs (commitmentOf i c) (commitmentFrom (newAddressOf i
 unfoldable pub no16 : List ℕ → List Row
 no16 c = forEach (commitmentWrong c) 16
 
--- what the witness is asked, and the whole table of the case alone
+-- what the public part is asked, what the witness is asked, and the whole table of the case alone
+unfoldable pub publicTable : List ℕ → List (List Row)
+publicTable c = no1 c ∷ no4 c ∷ no5 c ∷ no7 c ∷ []
+
 unfoldable pub witnessTable : List ℕ → List (List Row)
 witnessTable c = no9 c ∷ no10 c ∷ no11 c ∷ no12 c ∷ no13 c ∷ no14 c ∷ no15 c ∷ no16 c ∷ []
 

@@ -6,13 +6,13 @@ ghost use Prim.Native.Nat.{_+_, _*_, _^_, _<_};
 ghost use Rattle.units.specs.Pairs.{numberOf};
 ghost use Rattle.refusals.specs.Table.{first, rowsIn};
 ghost use Rattle.statement.specs.Conditions.{differs as differsOf};
-ghost use Rattle.statement.specs.CaseTable.{no1, no4, no5, no7, no9, no10, no11, no12, no13, no14, no15, no16, rangeOf, straysOf, balancedOf, nullifierWrong, addressWrong, tagWrong, rhoWrong, commitmentWrong, hSigOf, oldCommitmentOf, witnessTable, caseTable};
+ghost use Rattle.statement.specs.CaseTable.{no1, no4, no5, no7, no9, no10, no11, no12, no13, no14, no15, no16, rangeOf, straysOf, balancedOf, nullifierWrong, addressWrong, tagWrong, rhoWrong, commitmentWrong, hSigOf, oldCommitmentOf, publicTable, witnessTable, caseTable};
 use refusals::Answer;
 use units::Amount;
 use units::Which;
 
 // 1
-pub fn length(case: &[u8]) -> Answer
+fn length(case: &[u8]) -> Answer
     ensures { λ r. ⌜ r ≡ first (no1 (now (case .entry))) ⌝ }
 {
     if casefile::has_length(case) {
@@ -23,7 +23,7 @@ pub fn length(case: &[u8]) -> Answer
 }
 
 // 4
-pub fn one_sided(case: &[u8]) -> Answer
+fn one_sided(case: &[u8]) -> Answer
     ensures { λ r. ⌜ r ≡ first (no4 (now (case .entry))) ⌝ }
 {
     if casefile::vpub_old(case).is_zero() {
@@ -36,7 +36,7 @@ pub fn one_sided(case: &[u8]) -> Answer
 }
 
 // 5
-pub fn public_amounts(case: &[u8]) -> Answer
+fn public_amounts(case: &[u8]) -> Answer
     ensures { λ r. ⌜ r ≡ first (no5 (now (case .entry))) ⌝ }
 {
     if !casefile::vpub_old(case).is_money() {
@@ -49,7 +49,7 @@ pub fn public_amounts(case: &[u8]) -> Answer
 }
 
 // 7
-pub fn distinct(case: &[u8]) -> Answer
+fn distinct(case: &[u8]) -> Answer
     ensures { λ r. ⌜ r ≡ first (no7 (now (case .entry))) ⌝ }
 {
     let one = casefile::nullifier(case, Which::First);
@@ -337,9 +337,9 @@ pub fn witness(case: &[u8]) -> Answer
     commitments(case)
 }
 
-// The answer for the case alone.
-pub fn alone(case: &[u8]) -> Answer
-    ensures { λ r. ⌜ r ≡ first (caseTable (now (case .entry))) ⌝ }
+// 1, 4, 5 and 7: what the public part must satisfy.
+pub fn public_part(case: &[u8]) -> Answer
+    ensures { λ r. ⌜ r ≡ first (rowsIn (publicTable (now (case .entry)))) ⌝ }
 {
     let a1 = length(case);
     if !a1.is_accepted() {
@@ -353,9 +353,16 @@ pub fn alone(case: &[u8]) -> Answer
     if !a5.is_accepted() {
         return a5;
     }
-    let a7 = distinct(case);
-    if !a7.is_accepted() {
-        return a7;
+    distinct(case)
+}
+
+// The answer for the case alone.
+pub fn alone(case: &[u8]) -> Answer
+    ensures { λ r. ⌜ r ≡ first (caseTable (now (case .entry))) ⌝ }
+{
+    let a = public_part(case);
+    if !a.is_accepted() {
+        return a;
     }
     witness(case)
 }

@@ -1,97 +1,28 @@
 use mathlib.Core.Path.{_≡_, refl, sym, _∙_}
-use mathlib.Core.List.{[], _∷_}
-use Rattle.refusals.specs.Table.{first, rowsIn, numbered}
-use Rattle.refusals.proofs.TableLaws.{stops, goes-on}
-use Rattle.statement.specs.CaseTable.{no1, no4, no5, no7, witnessTable, caseTable}
+use Rattle.refusals.specs.Table.{rowsIn, numbered}
+use Rattle.refusals.proofs.TableLaws.{run-stops, run-goes-on}
+use Rattle.statement.specs.CaseTable.{no1, no4, no5, no7, publicTable, witnessTable, caseTable}
 use borrow.Author.Needs.{needs}
 use Rattle.statement.proofs.alone.Statement.{statement}
 use Rattle.statement.proofs.alone.Tie as tie
 
-abbrev S1 : tie.Else1 → tie.Start
-S1 c = c .before .before .before .before
-
-abbrev S2 : tie.Else2 → tie.Start
-S2 c = S1 (c .before .before .before)
-
-abbrev S3 : tie.Else3 → tie.Start
-S3 c = S2 (c .before .before .before)
-
-abbrev S4 : tie.Else4 → tie.Start
-S4 c = S3 (c .before .before .before)
-
-rest1 : (c : tie.Else1) → let case = S1 c .args .case .now in first (caseTable case) ≡ first (rowsIn (no4 case ∷ no5 case ∷ no7 case ∷ witnessTable case))
-unfolding caseTable numbered no1
-rest1 c =
-    let case = S1 c .args .case .now in
-    goes-on (no1 case) (no4 case ∷ no5 case ∷ no7 case ∷ witnessTable case) _ _ (c .before .before .length .ensures) (c .before .is-accepted .ensures) refl (c .if1 .left)
-
-rest2 : (c : tie.Else2) → let case = S2 c .args .case .now in first (caseTable case) ≡ first (rowsIn (no5 case ∷ no7 case ∷ witnessTable case))
-unfolding caseTable numbered no4
-rest2 c =
-    let case = S2 c .args .case .now in
-    rest1 (c .before .before .before) ∙ goes-on (no4 case) (no5 case ∷ no7 case ∷ witnessTable case) _ _ (c .before .before .one-sided .ensures) (c .before .is-accepted2 .ensures) refl (c .if2 .left)
-
-rest3 : (c : tie.Else3) → let case = S3 c .args .case .now in first (caseTable case) ≡ first (rowsIn (no7 case ∷ witnessTable case))
-unfolding caseTable numbered no5
-rest3 c =
-    let case = S3 c .args .case .now in
-    rest2 (c .before .before .before) ∙ goes-on (no5 case) (no7 case ∷ witnessTable case) _ _ (c .before .before .public-amounts .ensures) (c .before .is-accepted3 .ensures) refl (c .if3 .left)
-
-rest4 : (c : tie.Else4) → let case = S4 c .args .case .now in first (caseTable case) ≡ first (rowsIn (witnessTable case))
-unfolding caseTable numbered no7
-rest4 c =
-    let case = S4 c .args .case .now in
-    rest3 (c .before .before .before) ∙ goes-on (no7 case) (witnessTable case) _ _ (c .before .before .distinct .ensures) (c .before .is-accepted4 .ensures) refl (c .if4 .left)
-
 returns : tie.Need-returns
-unfolding caseTable
+unfolding caseTable publicTable
 returns c =
-    let case = c .before .before .before .before .args .case .now in
-    stops (no1 case) (no4 case ∷ no5 case ∷ no7 case ∷ witnessTable case) _ _ (c .before .before .length .ensures) (c .before .is-accepted .ensures) (c .if1 .taken)
+    let p = c .before .before in
+    let case = p .before .before .args .case .now in
+    run-stops (publicTable case) (witnessTable case) _ _ (p .public-part .ensures) (c .before .is-accepted .ensures) (c .if1 .taken)
 
 returns-2 : tie.Need-returns-2
-unfolding caseTable
+unfolding caseTable publicTable rowsIn numbered no1 no4 no5 no7
 returns-2 c =
-    let p = c .before .before .before in
-    let case = S1 p .args .case .now in
-    stops (no4 case) (no5 case ∷ no7 case ∷ witnessTable case) _ _ (c .before .before .one-sided .ensures) (c .before .is-accepted2 .ensures) (c .if2 .taken) ∙ sym (rest1 p)
-
-returns-3 : tie.Need-returns-3
-unfolding caseTable
-returns-3 c =
-    let p = c .before .before .before in
-    let case = S2 p .args .case .now in
-    stops (no5 case) (no7 case ∷ witnessTable case) _ _ (c .before .before .public-amounts .ensures) (c .before .is-accepted3 .ensures) (c .if3 .taken) ∙ sym (rest2 p)
-
-returns-4 : tie.Need-returns-4
-unfolding caseTable
-returns-4 c =
-    let p = c .before .before .before in
-    let case = S3 p .args .case .now in
-    stops (no7 case) (witnessTable case) _ _ (c .before .before .distinct .ensures) (c .before .is-accepted4 .ensures) (c .if4 .taken) ∙ sym (rest3 p)
-
-returns-5 : tie.Need-returns-5
-unfolding caseTable
-returns-5 c =
-    let p = c .before in
-    let case = S4 p .args .case .now in
-    c .witness .ensures ∙ sym (rest4 p)
+    let e = c .before in
+    let p = e .before .before in
+    let case = p .before .before .args .case .now in
+    c .witness .ensures
+    ∙ sym (run-goes-on (publicTable case) (witnessTable case) _ _ (p .public-part .ensures) (e .before .is-accepted .ensures) refl (e .if1 .left))
 
 pub alone-spec : {M : Type 1} → statement M
 alone-spec =
     tie.close
-    (tie.spec
-    (λ c κs. search needs)
-    (λ c κs. search needs)
-    returns
-    (λ c κs. search needs)
-    (λ c κs. search needs)
-    returns-2
-    (λ c κs. search needs)
-    (λ c κs. search needs)
-    returns-3
-    (λ c κs. search needs)
-    (λ c κs. search needs)
-    returns-4
-    (λ c κs. search needs)
-    returns-5)
+    (tie.spec (λ c κs. search needs) (λ c κs. search needs) returns (λ c κs. search needs) returns-2)

@@ -1,0 +1,50 @@
+-- What the judge hands back, by whether its answer accepts.
+-- Assumes nothing.
+use Prim.Native.Nat.{ℕ}
+use mathlib.Core.Path.{_≡_, refl, sym, ap, _∙_}
+use mathlib.Core.Bool.{Bool, true, false, not}
+use mathlib.Core.List.{List}
+use Rattle.refusals.specs.declared.Answer.{Answer}
+use Rattle.refusals.specs.Table.{rowsIn, first, isAccepted}
+use Rattle.refusals.proofs.TableLaws.{run-stops, run-goes-on}
+use Rattle.casefile.specs.Fields.{vpubOldOf, vpubNewOf, nullifierOf, commitmentOf}
+use Rattle.statement.specs.CaseTable.{witnessTable}
+use Rattle.ledger.specs.declared.Ledger.{Ledger}
+use Rattle.ledger.specs.declared.Answered.{Answered}
+use Rattle.ledger.specs.Rows.{entered}
+use Rattle.ledger.specs.Ledgers.{enteredOf}
+use Rattle.judge.specs.Judging.{frontTable, answerOf, ledgerAfter, tableAfter, judgedOf}
+use Rattle.judge.proofs.Halves.{front-numbers, halves}
+
+module _ (c t r : List ℕ) (l : Ledger) where
+  -- the half that needs no hash decides, or the witness does
+  module _ (a : Answer) (b : Bool) (e : a ≡ first (rowsIn (frontTable c t r l))) (q : b ≡ isAccepted a) where
+    pub front-decides : not b ≡ true → a ≡ answerOf c t r l
+    unfolding answerOf
+    front-decides h = run-stops (frontTable c t r l) (witnessTable c) a b e q h ∙ ap first (sym (halves c t r l))
+
+    pub witness-decides : not b ≡ false → answerOf c t r l ≡ first (rowsIn (witnessTable c))
+    unfolding answerOf
+    witness-decides h = ap first (halves c t r l) ∙ run-goes-on (frontTable c t r l) (witnessTable c) a b e q (front-numbers c t r l) h
+
+  -- a refusal leaves everything
+  pub refused-ledger : isAccepted (answerOf c t r l) ≡ false → ledgerAfter c t r l ≡ l
+  unfolding ledgerAfter
+  refused-ledger h = rw h
+
+  pub refused-table : isAccepted (answerOf c t r l) ≡ false → tableAfter c t r l ≡ t
+  unfolding tableAfter
+  refused-table h = rw h
+
+  -- an accepted case is entered
+  pub accepted-ledger : isAccepted (answerOf c t r l) ≡ true → ledgerAfter c t r l ≡ enteredOf l (commitmentOf 1 c) (commitmentOf 2 c) (vpubOldOf c) (vpubNewOf c)
+  unfolding ledgerAfter
+  accepted-ledger h = rw h
+
+  pub accepted-table : isAccepted (answerOf c t r l) ≡ true → tableAfter c t r l ≡ entered (l .nullifiers) t (nullifierOf 1 c) (nullifierOf 2 c)
+  unfolding tableAfter
+  accepted-table h = rw h
+
+  pub judged : (a : Answer) (m : Ledger) → a ≡ answerOf c t r l → m ≡ ledgerAfter c t r l → _≡_ {A = Answered} (record { answer = a; ledger = m }) (judgedOf c t r l)
+  unfolding judgedOf
+  judged a m p q = rw (p, q)

@@ -6,3 +6,4 @@ pub mod TableLaws
 pub mod Signed
 pub mod Soundness
 pub mod Endings
+pub mod Entering

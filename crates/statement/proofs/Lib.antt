@@ -1,2 +1,3 @@
+mod Marked
 mod PathLaws
 mod TestLaws

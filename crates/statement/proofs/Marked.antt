@@ -1,0 +1,73 @@
+-- Document 01's marked examples, each a test of the definitions, and the one statement that all of them pass.
+-- Assumes nothing.
+use Prim.Native.Nat.{ℕ, _-_, _^_}
+use mathlib.Core.Path.{_≡_, refl}
+use mathlib.Core.Bool.{Bool, true, not, _&&_}
+use mathlib.Core.List.{List, [], _∷_, _++_}
+use lib.Dec.{eqb}
+use lib.ListN.{getD}
+use Rattle.octets.specs.Parts.{field, listed}
+use Rattle.octets.specs.Numbers.{little, littleBytes}
+use Rattle.refusals.specs.declared.Answer.{Answer}
+use Rattle.refusals.specs.Table.{first}
+use Rattle.sprout.specs.Hashes.{addressTag, nullifierTag, macTag, rhoTag, withTag, hasTopBits}
+use Rattle.casefile.specs.Layout.{description, oldNote, newNote, lengths, total, offset, proofLength, partOf}
+use Rattle.casefile.specs.Fields.{vpubOldOf, vpubNewOf}
+use Rattle.statement.specs.Conditions.{bothPublic, aboveMoney, outOfRange, balanced}
+use Rattle.statement.specs.CaseTable.{no4, no5}
+
+-- each test passes
+every : List Bool → Bool
+every [] = true
+every (b ∷ bs) = b && every bs
+
+firstByte : List ℕ → ℕ
+firstByte s = getD s 0 0
+
+-- an answer has that number and place
+answers : Answer → ℕ → ℕ → Bool
+answers a number place = eqb (a .number) number && eqb (a .place) place
+
+-- with any bytes behind those that an example names
+module _ (rest : List ℕ) where
+  -- a case with these public values
+  public : ℕ → ℕ → List ℕ
+  public old new = littleBytes 8 old ++ littleBytes 8 new ++ rest
+
+  key : List ℕ
+  key = 0x0a ∷ rest
+
+  phi : List ℕ
+  phi = 0x05 ∷ rest
+
+  marked : List Bool
+  marked =
+      -- 1 the address
+      eqb (firstByte (withTag addressTag key)) 0xca
+      -- 2 the nullifier
+      ∷ eqb (firstByte (withTag nullifierTag key)) 0xea
+      -- 3 tag 1
+      ∷ eqb (firstByte (withTag (macTag 1) key)) 0x0a
+      -- 4 tag 2
+      ∷ eqb (firstByte (withTag (macTag 2) key)) 0x4a
+      -- 5 new rho 1
+      ∷ eqb (firstByte (withTag (rhoTag 1) phi)) 0x25
+      -- 6 new rho 2
+      ∷ eqb (firstByte (withTag (rhoTag 2) phi)) 0x65
+      -- 7 the highest public value is allowed
+      ∷ answers (first (no5 (public 2100000000000000 0))) 0 0
+      -- 8 one more is refusal 5
+      ∷ answers (first (no5 (public 2100000000000001 0))) 5 1
+      -- 9 two public values are refusal 4
+      ∷ answers (first (no4 (public 1 1))) 4 0
+      -- 10 balanced
+      ∷ balanced 0 7000 3000 10000 0 0
+      -- 11 not balanced
+      ∷ not (balanced 0 (2 ^ 64 - 1) 1 0 0 0)
+      -- 12 the last leaf's position is allowed
+      ∷ not (outOfRange key (2 ^ 29 - 1))
+      ∷ []
+
+  all-marked : every marked ≡ true
+  unfolding every firstByte answers public key phi marked withTag hasTopBits first no4 no5 bothPublic aboveMoney outOfRange balanced vpubOldOf vpubNewOf partOf offset total lengths description oldNote newNote proofLength field listed little littleBytes
+  all-marked = refl

@@ -1,3 +1,4 @@
 mod Marked
+pub mod Order
 mod PathLaws
 mod TestLaws

@@ -1,2 +1,3 @@
+pub mod AgreementLaws
 pub mod LayoutLaws
 mod Places

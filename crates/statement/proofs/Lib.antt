@@ -1,3 +1,4 @@
+pub mod Carried
 mod Marked
 pub mod Order
 mod PathLaws

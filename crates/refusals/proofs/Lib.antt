@@ -1,2 +1,3 @@
+pub mod Denials
 pub mod TableLaws
 pub mod TwoTables

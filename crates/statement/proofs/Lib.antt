@@ -1,4 +1,5 @@
 pub mod Carried
+pub mod Clauses
 mod Marked
 pub mod Order
 mod PathLaws

@@ -1,0 +1,82 @@
+-- A case alone is accepted exactly when each of its clauses holds.
+-- Assumes nothing.
+use Prim.Native.Nat.{ℕ}
+use mathlib.Core.Path.{_≡_, sym, ap, _∙_}
+use mathlib.Core.Bool.{not, false≢true}
+use mathlib.Core.List.{List}
+use borrow.Author.Tests.{not-false}
+use Rattle.octets.specs.Parts.{same}
+use Rattle.octets.proofs.PartLaws.{same-eq, same-refl}
+use Rattle.refusals.specs.Table.{None, rowsIn, first, accepted}
+use Rattle.refusals.proofs.TableLaws.{by-test, first-none, none-first}
+use Rattle.refusals.proofs.Denials.{Denies, equal, at-most, below, either, both, testOf, fails, _&_}
+use Rattle.sprout.specs.Hashes.{hasTopBits}
+use Rattle.casefile.specs.Fields.{hasLength}
+use Rattle.statement.specs.Conditions.{bothPublic, aboveMoney, outOfRange, strays, balanced, differs}
+use Rattle.statement.specs.CaseTable.{no1, no4, no5, no7, no9, no10, no11, no12, no13, no14, no15, no16, rangeOf, straysOf, balancedOf, nullifierWrong, addressWrong, tagWrong, rhoWrong, commitmentWrong, witnessTable, caseTable}
+use Rattle.statement.specs.Clauses.{Clauses}
+use Rattle.statement.proofs.Order.{case-numbered}
+
+-- tests on bytes
+pub alike : {s t : List ℕ} → Denies (not (same s t)) (s ≡ t)
+alike {s} {t} = (λ h. same-eq s t (not-false (same s t) h), λ e. rw e (ap not (same-refl t)))
+
+pub unlike : {s t : List ℕ} → Denies (same s t) (s ≡ t → ⊥)
+unlike {s} {t} =
+    (λ h e. false≢true (sym h ∙ ap (same s) (sym e) ∙ same-refl s), λ n. by-test (same s t) (λ e. absurd (n (same-eq s t e))) (λ e. e))
+
+module _ (c : List ℕ) where
+  -- no row applies exactly when each clause holds
+  pub none-clauses : None (caseTable c) → Clauses c
+  unfolding testOf rowsIn hasLength bothPublic aboveMoney hasTopBits outOfRange strays balanced differs no1 no4 no5 no7 no9 no10 no11 no12 no13 no14 no15 no16 rangeOf straysOf balancedOf nullifierWrong addressWrong tagWrong rhoWrong commitmentWrong witnessTable caseTable
+  none-clauses h =
+      let no = fails (caseTable c) h in
+      record {
+        whole = equal .0 (no 1 0);
+        one-sided = either equal equal .0 (no 4 0);
+        old-money = at-most .0 (no 5 1);
+        new-money = at-most .0 (no 5 2);
+        distinct = unlike .0 (no 7 0);
+        ranges = (both at-most below .0 (no 9 1), both at-most below .0 (no 9 2));
+        phi-free = at-most .0 (no 9 3);
+        paths = (either equal alike .0 (no 10 1), either equal alike .0 (no 10 2));
+        balance = equal .0 (no 11 0);
+        nullifiers = (alike .0 (no 12 1), alike .0 (no 12 2));
+        addresses = (alike .0 (no 13 1), alike .0 (no 13 2));
+        tags = (alike .0 (no 14 1), alike .0 (no 14 2));
+        rhos = (alike .0 (no 15 1), alike .0 (no 15 2));
+        commitments = (alike .0 (no 16 1), alike .0 (no 16 2));
+      }
+
+  pub clauses-none : Clauses c → None (caseTable c)
+  unfolding None rowsIn hasLength bothPublic aboveMoney hasTopBits outOfRange strays balanced differs no1 no4 no5 no7 no9 no10 no11 no12 no13 no14 no15 no16 rangeOf straysOf balancedOf nullifierWrong addressWrong tagWrong rhoWrong commitmentWrong witnessTable caseTable
+  clauses-none k =
+      equal .1 (k .whole)
+      & either equal equal .1 (k .one-sided)
+      & at-most .1 (k .old-money)
+      & at-most .1 (k .new-money)
+      & unlike .1 (k .distinct)
+      & both at-most below .1 (k .ranges .0)
+      & both at-most below .1 (k .ranges .1)
+      & at-most .1 (k .phi-free)
+      & either equal alike .1 (k .paths .0)
+      & either equal alike .1 (k .paths .1)
+      & equal .1 (k .balance)
+      & alike .1 (k .nullifiers .0)
+      & alike .1 (k .nullifiers .1)
+      & alike .1 (k .addresses .0)
+      & alike .1 (k .addresses .1)
+      & alike .1 (k .tags .0)
+      & alike .1 (k .tags .1)
+      & alike .1 (k .rhos .0)
+      & alike .1 (k .rhos .1)
+      & alike .1 (k .commitments .0)
+      & alike .1 (k .commitments .1)
+      & tt
+
+  -- THE THEOREM
+  pub accepted-clauses : first (caseTable c) .number ≡ 0 → Clauses c
+  accepted-clauses h = none-clauses (first-none (caseTable c) (case-numbered c) h)
+
+  pub clauses-accepted : Clauses c → first (caseTable c) ≡ accepted
+  clauses-accepted k = none-first (caseTable c) (clauses-none k)

@@ -7,7 +7,7 @@ use mathlib.Core.Bool.{Bool, true, false, cond, not, _&&_, Bool·beq, false≢tr
 use mathlib.Core.List.{List, [], _∷_}
 use native.Mathlib.Omega.{arith}
 use native.Mathlib.Nat.{eq-or-lt-of-le}
-use borrow.Author.Tests.{ne-eqb, not-true, leb-true, leb-false, le-leb, lt-leb}
+use borrow.Author.Tests.{eqb-true, eqb-false, ne-eqb, not-true, leb-true, leb-false, le-leb, lt-leb}
 use lib.Dec.{eqb, leb}
 use Rattle.refusals.specs.declared.Answer.{Answer}
 use Rattle.refusals.specs.Table.{Row, answer, isAccepted, first, numbered, lower, refusesUpTo}
@@ -54,6 +54,17 @@ lower-right a b n (inl h) = rw (ne-eqb (b .number) 0 n, h)
 lower-right a b n (inr h) =
     let z : a .number ≡ 0 → ⊥ = λ e. omega arith in
     rw (ne-eqb (b .number) 0 n, ne-eqb (a .number) 0 z, lt-leb (a .number) (b .number) h)
+
+-- both accept where the lower does
+pub lower-accepts : (a b : Answer) → lower a b .number ≡ 0 → (a .number ≡ 0) × (b .number ≡ 0)
+lower-accepts a b h =
+    by-test (isAccepted b)
+    (λ e. (rw e at h, eqb-true (b .number) 0 e))
+    (λ e. by-test (isAccepted a)
+    (λ f. absurd (eqb-false (b .number) 0 e (rw (e, f) at h)))
+    (λ f. by-test (leb (a .number) (b .number))
+    (λ g. absurd (eqb-false (a .number) 0 f (rw (e, f, g) at h)))
+    (λ g. absurd (eqb-false (b .number) 0 e (rw (e, f, g) at h)))))
 
 -- one who asks for himself with an answer in hand: he keeps it where it refuses with a number up to that of every row left, gives up on it where a
 -- row with a lower number refuses, and has it still where none does

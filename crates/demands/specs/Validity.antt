@@ -1,0 +1,64 @@
+-- When the public rules say that a Sprout JoinSplit, with the disclosed notes in hand, is valid on a ledger. The clauses of the JoinSplit statement
+-- have the names that source document 003 gives them in its section 5.6. i is 1 or 2; ForBoth says a clause of both.
+-- Assumes nothing.
+use Prim.Native.Nat.{ℕ, _+_, _<_, _≤_}
+use mathlib.Core.Path.{_≡_}
+use mathlib.Core.Bool.{false}
+use mathlib.Core.Logic.{_⊎_}
+use mathlib.Core.List.{List, List·Memᴰ}
+use lib.ListN.{length}
+use Rattle.units.specs.Limits.{maxMoney, treeLeaves}
+use Rattle.units.specs.Pairs.{ForBoth}
+use Rattle.sprout.specs.Hashes.{addressFrom, nullifierFrom, macFrom, rhoFrom, commitmentFrom, hSigFrom}
+use Rattle.tree.specs.Record.{pathEnd}
+use Rattle.casefile.specs.Fields.{vpubOldOf, vpubNewOf, anchorOf, nullifierOf, commitmentOf, seedOf, tagOf, transactionKeyOf, oldKeyOf, oldAddressOf, oldValueOf, oldRhoOf, oldTrapdoorOf, oldPositionOf, oldPathOf, newAddressOf, newValueOf, newRhoOf, newTrapdoorOf, phiOf}
+use Rattle.statement.specs.Clauses.{LeavesFree}
+use Rattle.ledger.specs.declared.Ledger.{Ledger}
+use Rattle.ledger.specs.Ledgers.{mostNullifiers, roomIn, spentRows, anchorRows, damaged}
+
+-- a note's commitment, of old note i and of new note i
+abbrev pub oldNote : ℕ → List ℕ → List ℕ
+oldNote i c = commitmentFrom (oldAddressOf i c) (oldValueOf i c) (oldRhoOf i c) (oldTrapdoorOf i c)
+
+abbrev pub newNote : ℕ → List ℕ → List ℕ
+newNote i c = commitmentFrom (newAddressOf i c) (newValueOf i c) (newRhoOf i c) (newTrapdoorOf i c)
+
+abbrev pub hSig : List ℕ → List ℕ
+hSig c = hSigFrom (seedOf c) (nullifierOf 1 c) (nullifierOf 2 c) (transactionKeyOf c)
+
+-- THE STATEMENT, of the description's public values and the notes behind it
+pub record Statement (c : List ℕ) : Type 0 where
+  pub merkle-path-validity : ForBoth (λ i. (oldValueOf i c ≡ 0) ⊎ (pathEnd (oldNote i c) (oldPositionOf i c) (oldPathOf i c) ≡ anchorOf c))
+  pub balance : vpubOldOf c + oldValueOf 1 c + oldValueOf 2 c ≡ vpubNewOf c + newValueOf 1 c + newValueOf 2 c
+  pub nullifier-integrity : ForBoth (λ i. nullifierOf i c ≡ nullifierFrom (oldKeyOf i c) (oldRhoOf i c))
+  pub spend-authority : ForBoth (λ i. oldAddressOf i c ≡ addressFrom (oldKeyOf i c))
+  pub non-malleability : ForBoth (λ i. tagOf i c ≡ macFrom i (oldKeyOf i c) (hSig c))
+  pub uniqueness-of-rho : ForBoth (λ i. newRhoOf i c ≡ rhoFrom i (phiOf c) (hSig c))
+  pub commitment-integrity : ForBoth (λ i. commitmentOf i c ≡ newNote i c)
+
+-- THE ENCODING: a whole file, keys of 252 bits, positions of the tree
+pub record Encoded (c : List ℕ) : Type 0 where
+  pub whole : length c ≡ 4210
+  pub keys : ForBoth (λ i. LeavesFree (oldKeyOf i c))
+  pub seed : LeavesFree (phiOf c)
+  pub positions : ForBoth (λ i. oldPositionOf i c < treeLeaves)
+
+-- THE PUBLIC VALUES: not both, and none above all money
+pub record PublicValues (c : List ℕ) : Type 0 where
+  pub one-sided : (vpubOldOf c ≡ 0) ⊎ (vpubNewOf c ≡ 0)
+  pub old-money : vpubOldOf c ≤ maxMoney
+  pub new-money : vpubNewOf c ≤ maxMoney
+
+-- THE LEDGER'S SIDE: a known anchor, nullifiers that differ and are unspent, room for them; a damaged ledger takes nothing (house)
+pub record Admitted (c t r : List ℕ) (l : Ledger) : Type 0 where
+  pub undamaged : damaged t r l ≡ false
+  pub room : l .nullifiers + 2 ≤ roomIn mostNullifiers (length t)
+  pub anchor : List·Memᴰ (anchorOf c) (anchorRows r l)
+  pub distinct : nullifierOf 1 c ≡ nullifierOf 2 c → ⊥
+  pub unspent : ForBoth (λ i. List·Memᴰ (nullifierOf i c) (spentRows t l) → ⊥)
+
+pub record Valid (c t r : List ℕ) (l : Ledger) : Type 0 where
+  pub encoding : Encoded c
+  pub public-values : PublicValues c
+  pub ledger : Admitted c t r l
+  pub statement : Statement c

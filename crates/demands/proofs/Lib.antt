@@ -1,2 +1,5 @@
+pub mod Carried
 pub mod Demand1
 pub mod Demand2
+pub mod Demand3
+pub mod OneCase

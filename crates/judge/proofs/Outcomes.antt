@@ -3,10 +3,11 @@
 use Prim.Native.Nat.{ℕ}
 use mathlib.Core.Path.{_≡_, refl, sym, ap, _∙_}
 use mathlib.Core.Bool.{Bool, true, false, not}
-use mathlib.Core.List.{List}
+use mathlib.Core.List.{List, _++_}
+use borrow.Author.Tests.{eqb-true}
 use Rattle.refusals.specs.declared.Answer.{Answer}
-use Rattle.refusals.specs.Table.{rowsIn, first, isAccepted}
-use Rattle.refusals.proofs.TableLaws.{run-stops, run-goes-on}
+use Rattle.refusals.specs.Table.{Row, rowsIn, first, isAccepted}
+use Rattle.refusals.proofs.TableLaws.{by-test, first-refused, rows-append, run-stops, run-goes-on}
 use Rattle.casefile.specs.Fields.{vpubOldOf, vpubNewOf, nullifierOf, commitmentOf}
 use Rattle.statement.specs.CaseTable.{witnessTable}
 use Rattle.ledger.specs.declared.Ledger.{Ledger}
@@ -26,6 +27,16 @@ module _ (c t r : List ℕ) (l : Ledger) where
     pub witness-decides : not b ≡ false → answerOf c t r l ≡ first (rowsIn (witnessTable c))
     unfolding answerOf
     witness-decides h = ap first (halves c t r l) ∙ run-goes-on (frontTable c t r l) (witnessTable c) a b e q (front-numbers c t r l) h
+
+  -- an accepted case passed the half that needs no hash
+  pub accepted-front : answerOf c t r l .number ≡ 0 → first (rowsIn (frontTable c t r l)) .number ≡ 0
+  unfolding answerOf
+  accepted-front h =
+      let whole : first (rowsIn (frontTable c t r l) ++ rowsIn (witnessTable c)) .number ≡ 0 =
+      ap (λ (rows : List Row). first rows .number) (sym (halves c t r l ∙ rows-append (frontTable c t r l) (witnessTable c))) ∙ h in
+      by-test (isAccepted (first (rowsIn (frontTable c t r l))))
+      (λ e. eqb-true (first (rowsIn (frontTable c t r l)) .number) 0 e)
+      (λ e. ap (λ (a : Answer). a .number) (sym (first-refused (rowsIn (frontTable c t r l)) (rowsIn (witnessTable c)) e)) ∙ whole)
 
   -- a refusal leaves everything
   pub refused-ledger : isAccepted (answerOf c t r l) ≡ false → ledgerAfter c t r l ≡ l

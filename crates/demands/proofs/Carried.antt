@@ -1,0 +1,47 @@
+-- No answer and no ledger depends on what is carried and never checked: ephemeral key, proof and ciphertexts.
+-- Assumes nothing.
+use Prim.Native.Nat.{ℕ}
+use mathlib.Core.Path.{_≡_, refl, sym, ap, ap₂, _∙_}
+use mathlib.Core.List.{List}
+use Rattle.octets.specs.Numbers.{little}
+use Rattle.refusals.specs.declared.Answer.{Answer}
+use Rattle.refusals.specs.Table.{Row, first, lower}
+use Rattle.casefile.specs.Agreement.{AgreeButCarried, isChecked, isCarried}
+use Rattle.casefile.specs.Layout.{partOf}
+use Rattle.casefile.specs.Fields.{vpubOldOf, vpubNewOf, anchorOf, nullifierOf, commitmentOf}
+use Rattle.statement.specs.CaseTable.{caseTable}
+use Rattle.statement.proofs.Carried.{carried-table}
+use Rattle.ledger.specs.declared.Ledger.{Ledger}
+use Rattle.ledger.specs.Ledgers.{ledgerTable}
+use Rattle.judge.specs.Judging.{answerOf, ledgerAfter, tableAfter}
+use Rattle.judge.proofs.Halves.{answer-lower}
+
+module _ (c d t r : List ℕ) (l : Ledger) (agree : AgreeButCarried c d) where
+  same-anchor : anchorOf c ≡ anchorOf d
+  unfolding anchorOf isChecked isCarried
+  same-anchor = agree .fields 2 refl
+
+  same-nullifier : (nullifierOf 1 c ≡ nullifierOf 1 d) × (nullifierOf 2 c ≡ nullifierOf 2 d)
+  unfolding nullifierOf isChecked isCarried
+  same-nullifier = (agree .fields 3 refl, agree .fields 4 refl)
+
+  same-commitment : (commitmentOf 1 c ≡ commitmentOf 1 d) × (commitmentOf 2 c ≡ commitmentOf 2 d)
+  unfolding commitmentOf isChecked isCarried
+  same-commitment = (agree .fields 5 refl, agree .fields 6 refl)
+
+  same-values : (vpubOldOf c ≡ vpubOldOf d) × (vpubNewOf c ≡ vpubNewOf d)
+  unfolding vpubOldOf vpubNewOf isChecked isCarried
+  same-values = (ap little (agree .fields 0 refl), ap little (agree .fields 1 refl))
+
+  pub same-answer : answerOf c t r l ≡ answerOf d t r l
+  same-answer =
+      answer-lower c t r l
+      ∙ rw (carried-table c d agree, same-anchor, same-nullifier .0, same-nullifier .1) (sym (answer-lower d t r l))
+
+  pub same-ledger : ledgerAfter c t r l ≡ ledgerAfter d t r l
+  unfolding ledgerAfter
+  same-ledger = rw (same-answer, same-commitment .0, same-commitment .1, same-values .0, same-values .1)
+
+  pub same-table : tableAfter c t r l ≡ tableAfter d t r l
+  unfolding tableAfter
+  same-table = rw (same-answer, same-nullifier .0, same-nullifier .1)

@@ -1,0 +1,199 @@
+-- THE THIRD DEMAND: the order of opening does not matter. On one ledger with room for two cases, no block closed between them: each case gets the answer
+-- it would get alone, whichever goes first; if both are accepted, both orders end alike; and of two that would each pass alone and share a nullifier,
+-- the first passes and the second is refused as spent.
+-- Assumes nothing.
+use Prim.Native.Nat.{ℕ, _+_, _*_, _≤_}
+use mathlib.Core.Path.{_≡_, refl, sym, ap, ap₂, _∙_}
+use mathlib.Core.Logic.{_⊎_, inl, inr, ⊎-elim}
+use mathlib.Core.Bool.{Bool, true, false, not}
+use mathlib.Core.List.{List, [], _∷_}
+use native.Mathlib.Omega.{arith}
+use borrow.Author.Tests.{eqb-true, eq-eqb, le-ltb}
+use lib.Dec.{ltb}
+use lib.ListN.{length}
+use Rattle.octets.specs.Parts.{same}
+use Rattle.octets.specs.Rows.{Long}
+use Rattle.refusals.specs.declared.Answer.{Answer}
+use Rattle.refusals.specs.Table.{Row, answer, accepted, isAccepted, first, rowsIn, lower}
+use Rattle.refusals.proofs.TableLaws.{by-test}
+use Rattle.refusals.proofs.TwoTables.{lower-accepts}
+use Rattle.casefile.specs.Fields.{hasLength, vpubOldOf, vpubNewOf, anchorOf, nullifierOf, commitmentOf}
+use Rattle.tree.specs.Record.{grown}
+use Rattle.statement.specs.CaseTable.{no1, caseTable}
+use Rattle.statement.proofs.Clauses.{unlike, accepted-clauses, clauses-accepted}
+use Rattle.ledger.specs.declared.Ledger.{Ledger}
+use Rattle.ledger.specs.Rows.{among, entered}
+use Rattle.ledger.specs.Ledgers.{mostNullifiers, roomIn, spentRows, anchorRows, damaged, no2, no3, no6, no8, ledgerTable, enteredOf}
+use Rattle.ledger.proofs.Soundness.{sound-undamaged, among-member, member-among, within}
+use Rattle.ledger.proofs.Entering.{same-count, same-anchors, same-pool, one-record}
+use Rattle.ledger.proofs.TableLaws.{either-order}
+use Rattle.judge.specs.Judging.{judgeTable, answerOf, ledgerAfter, tableAfter}
+use Rattle.judge.proofs.Halves.{answer-lower}
+use Rattle.judge.proofs.Outcomes.{refused-ledger, refused-table}
+use Rattle.demands.specs.Pairs.{ShareNone, RoomForTwo, SameEnd}
+use Rattle.demands.specs.Validity.{Valid}
+use Rattle.demands.proofs.Demand2.{accepted-valid, valid-accepted}
+use Rattle.demands.proofs.OneCase.{sound-before, ready-before, table-is, ledger-is, length-then, rows-then, sound-then, other-then, own-then, nullifier-long}
+
+-- a file of the wrong length is refused with 1 by any ledger
+wrong-length : (d t r : List ℕ) (l : Ledger) → hasLength d ≡ false → answerOf d t r l ≡ answer 1 0
+unfolding answerOf judgeTable rowsIn first no1
+wrong-length d t r l h = rw h
+
+-- an accepted case has the right length
+right-length : (c t r : List ℕ) (l : Ledger) → answerOf c t r l .number ≡ 0 → hasLength c ≡ true
+right-length c t r l h =
+    by-test (hasLength c) (λ e. e) (λ e. let z : _≡_ {A = ℕ} 1 0 = ap (λ (a : Answer). a .number) (sym (wrong-length c t r l e)) ∙ h in absurd (omega arith))
+
+-- EACH GETS THE ANSWER IT WOULD GET ALONE: d after c, and d alone
+module _ (c d t r : List ℕ) (l : Ledger) (room : RoomForTwo t l) where
+  abbrev t′ : List ℕ
+  t′ = tableAfter c t r l
+
+  abbrev l′ : Ledger
+  l′ = ledgerAfter c t r l
+
+  module _ (h : answerOf c t r l .number ≡ 0) where
+    -- what c leaves to be asked of d
+    still-sound : damaged t′ r l′ ≡ false
+    still-sound = sound-undamaged t′ r l′ (sound-then c t r l h)
+
+    was-sound : damaged t r l ≡ false
+    was-sound = sound-undamaged t r l (sound-before c t r l h)
+
+    count-then : l′ .nullifiers ≡ l .nullifiers + 2
+    unfolding enteredOf
+    count-then = ap (λ (m : Ledger). m .nullifiers) (ledger-is c t r l h)
+
+    anchors-then : l′ .anchors ≡ l .anchors
+    unfolding enteredOf
+    anchors-then = ap (λ (m : Ledger). m .anchors) (ledger-is c t r l h)
+
+    still-room : ltb (roomIn mostNullifiers (length t′)) (l′ .nullifiers + 2) ≡ false
+    still-room = le-ltb (roomIn mostNullifiers (length t′)) (l′ .nullifiers + 2) (rw (length-then c t r l h, count-then) (omega arith))
+
+    had-room : ltb (roomIn mostNullifiers (length t)) (l .nullifiers + 2) ≡ false
+    had-room = le-ltb (roomIn mostNullifiers (length t)) (l .nullifiers + 2) (omega arith)
+
+    same-roll : anchorRows r l′ ≡ anchorRows r l
+    unfolding anchorRows
+    same-roll = rw anchors-then
+
+    unshared : ShareNone c d → hasLength d ≡ true → (among (nullifierOf 1 d) (spentRows t′ l′) ≡ among (nullifierOf 1 d) (spentRows t l)) × (among (nullifierOf 2 d) (spentRows t′ l′) ≡ among (nullifierOf 2 d) (spentRows t l))
+    unshared none e =
+        let n = none (right-length c t r l h) e in
+        (other-then c t r l h (nullifierOf 1 d) (unlike .1 (n .0 .0)) (unlike .1 (n .1 .0)), other-then c t r l h (nullifierOf 2 d) (unlike .1 (n .0 .1)) (unlike .1 (n .1 .1)))
+
+    ledger-same : ShareNone c d → hasLength d ≡ true
+        → ledgerTable t′ r l′ (anchorOf d) (nullifierOf 1 d) (nullifierOf 2 d) ≡ ledgerTable t r l (anchorOf d) (nullifierOf 1 d) (nullifierOf 2 d)
+    unfolding ledgerTable rowsIn no2 no3 no6 no8
+    ledger-same none e =
+        let u = unshared none e in
+        rw (still-sound, was-sound, still-room, had-room, same-roll, u .0, u .1)
+
+  pub alone : ShareNone c d → answerOf d t′ r l′ ≡ answerOf d t r l
+  alone none =
+      by-test (isAccepted (answerOf c t r l))
+      (λ e. accepted-first (eqb-true (answerOf c t r l .number) 0 e))
+      (λ e. ap₂ (λ (u : List ℕ) (m : Ledger). answerOf d u r m) (refused-table c t r l e) (refused-ledger c t r l e))
+    where
+      accepted-first : answerOf c t r l .number ≡ 0 → answerOf d t′ r l′ ≡ answerOf d t r l
+      accepted-first h =
+          by-test (hasLength d)
+          (λ e. answer-lower d t′ r l′ ∙ ap (λ (rows : List Row). lower (first (caseTable d)) (first rows)) (ledger-same h none e) ∙ sym (answer-lower d t r l))
+          (λ e. wrong-length d t′ r l′ e ∙ sym (wrong-length d t r l e))
+
+  -- OF TWO THAT SHARE A NULLIFIER, and would each pass alone, the second is refused as spent, at the lowest place
+  module _ (h : answerOf c t r l .number ≡ 0) (k : answerOf d t r l .number ≡ 0) where
+    own-passes : first (caseTable d) ≡ answer 0 0
+    own-passes =
+        clauses-accepted d
+        (accepted-clauses d
+        (lower-accepts (first (caseTable d)) (first (ledgerTable t r l (anchorOf d) (nullifierOf 1 d) (nullifierOf 2 d))) (ap (λ (a : Answer). a .number) (sym (answer-lower d t r l)) ∙ k) .0))
+
+    anchored : among (anchorOf d) (anchorRows r l′) ≡ true
+    anchored = rw (same-roll h) (member-among (anchorOf d) (anchorRows r l) (accepted-valid d t r l k .ledger .anchor))
+
+    spent-first : among (nullifierOf 1 d) (spentRows t′ l′) ≡ true → answerOf d t′ r l′ ≡ answer 8 1
+    unfolding ledgerTable rowsIn no2 no3 no6 no8 first
+    spent-first e = answer-lower d t′ r l′ ∙ rw (own-passes, still-sound h, still-room h, anchored, e)
+
+    spent-second : among (nullifierOf 1 d) (spentRows t′ l′) ≡ false → among (nullifierOf 2 d) (spentRows t′ l′) ≡ true → answerOf d t′ r l′ ≡ answer 8 2
+    unfolding ledgerTable rowsIn no2 no3 no6 no8 first
+    spent-second e f = answer-lower d t′ r l′ ∙ rw (own-passes, still-sound h, still-room h, anchored, e, f)
+
+    -- the nullifier of d at place 1 is one of c's
+    pub refused-at-1 : (nullifierOf 1 c ≡ nullifierOf 1 d) ⊎ (nullifierOf 2 c ≡ nullifierOf 1 d) → answerOf d t′ r l′ ≡ answer 8 1
+    refused-at-1 s =
+        let own = own-then c t r l h in
+        spent-first (⊎-elim (λ (e : nullifierOf 1 c ≡ nullifierOf 1 d). rw (sym e) (own .0)) (λ (e : nullifierOf 2 c ≡ nullifierOf 1 d). rw (sym e) (own .1)) s)
+
+    -- the one at place 1 is not, and the one at place 2 is
+    pub refused-at-2 : (nullifierOf 1 c ≡ nullifierOf 1 d → ⊥) → (nullifierOf 2 c ≡ nullifierOf 1 d → ⊥) → (nullifierOf 1 c ≡ nullifierOf 2 d) ⊎ (nullifierOf 2 c ≡ nullifierOf 2 d)
+        → answerOf d t′ r l′ ≡ answer 8 2
+    refused-at-2 p q s =
+        let own = own-then c t r l h in
+        let unspent = accepted-valid d t r l k .ledger .unspent .0 in
+        let before : among (nullifierOf 1 d) (spentRows t l) ≡ false = by-test (among (nullifierOf 1 d) (spentRows t l)) (λ e. absurd (unspent (among-member (nullifierOf 1 d) (spentRows t l) e))) (λ e. e) in
+        spent-second (other-then c t r l h (nullifierOf 1 d) (unlike .1 p) (unlike .1 q) ∙ before)
+        (⊎-elim (λ (e : nullifierOf 1 c ≡ nullifierOf 2 d). rw (sym e) (own .0)) (λ (e : nullifierOf 2 c ≡ nullifierOf 2 d). rw (sym e) (own .1)) s)
+
+    -- c and then d, where they share none
+    module _ (none : ShareNone c d) where
+      second-passes : answerOf d t′ r l′ .number ≡ 0
+      second-passes = ap (λ (a : Answer). a .number) (alone none) ∙ k
+
+      pub table-both : tableAfter d t′ r l′ ≡ entered (l .nullifiers + 2) (entered (l .nullifiers) t (nullifierOf 1 c) (nullifierOf 2 c)) (nullifierOf 1 d) (nullifierOf 2 d)
+      table-both =
+          table-is d t′ r l′ second-passes
+          ∙ ap₂ (λ (n : ℕ) (u : List ℕ). entered n u (nullifierOf 1 d) (nullifierOf 2 d)) (count-then h) (table-is c t r l h)
+
+      pub ledger-both : ledgerAfter d t′ r l′ ≡ enteredOf (enteredOf l (commitmentOf 1 c) (commitmentOf 2 c) (vpubOldOf c) (vpubNewOf c)) (commitmentOf 1 d) (commitmentOf 2 d) (vpubOldOf d) (vpubNewOf d)
+      ledger-both =
+          ledger-is d t′ r l′ second-passes
+          ∙ ap (λ (m : Ledger). enteredOf m (commitmentOf 1 d) (commitmentOf 2 d) (vpubOldOf d) (vpubNewOf d)) (ledger-is c t r l h)
+
+-- BOTH ORDERS END ALIKE
+turned : (c d : List ℕ) → ShareNone c d → ShareNone d c
+turned c d none e f =
+    let n = none f e in
+    ((λ q. n .0 .0 (sym q), λ q. n .1 .0 (sym q)), (λ q. n .0 .1 (sym q), λ q. n .1 .1 (sym q)))
+
+pub same-end : (c d t r : List ℕ) (l : Ledger) → RoomForTwo t l → ShareNone c d → answerOf c t r l .number ≡ 0 → answerOf d t r l .number ≡ 0 → SameEnd c d t r l
+unfolding Long
+same-end c d t r l room none h k =
+    let cd = ledger-both c d t r l room h k none in
+    let dc = ledger-both d c t r l room k h (turned c d none) in
+    let c1 = commitmentOf 1 c in
+    let c2 = commitmentOf 2 c in
+    let d1 = commitmentOf 1 d in
+    let d2 = commitmentOf 2 d in
+    let nc = nullifier-long c in
+    let nd = nullifier-long d in
+    record {
+      table =
+          table-both c d t r l room h k none
+          ∙ either-order (l .nullifiers) t (nullifierOf 1 c) (nullifierOf 2 c) (nullifierOf 1 d) (nullifierOf 2 d) (within (l .nullifiers + 4) mostNullifiers (length t) room) (nc .0, (nc .1, (nd .0, (nd .1, tt)))) (ready-before c t r l h .fresh) (ready-before d t r l k .fresh)
+          ∙ sym (table-both d c t r l room k h (turned c d none));
+      nullifiers = ap (λ (m : Ledger). m .nullifiers) cd ∙ same-count l c1 c2 (vpubOldOf c) (vpubNewOf c) d1 d2 (vpubOldOf d) (vpubNewOf d) ∙ ap (λ (m : Ledger). m .nullifiers) (sym dc);
+      anchors = ap (λ (m : Ledger). m .anchors) cd ∙ same-anchors l c1 c2 (vpubOldOf c) (vpubNewOf c) d1 d2 (vpubOldOf d) (vpubNewOf d) ∙ ap (λ (m : Ledger). m .anchors) (sym dc);
+      pool = ap (λ (m : Ledger). m .pool .0) cd ∙ same-pool l c1 c2 (vpubOldOf c) (vpubNewOf c) d1 d2 (vpubOldOf d) (vpubNewOf d) ∙ ap (λ (m : Ledger). m .pool .0) (sym dc);
+      c-first = ap (λ (m : Ledger). m .tree) cd ∙ one-record l c1 c2 (vpubOldOf c) (vpubNewOf c) d1 d2 (vpubOldOf d) (vpubNewOf d);
+      d-first = ap (λ (m : Ledger). m .tree) dc ∙ one-record l d1 d2 (vpubOldOf d) (vpubNewOf d) c1 c2 (vpubOldOf c) (vpubNewOf c);
+    }
+
+-- THE SAME IN THE WORDS OF THE SECOND DEMAND, so that a judge who refuses everything does not meet it: two Valid cases are both accepted, in either
+-- order, and end alike
+pub both-accepted : (c d t r : List ℕ) (l : Ledger) → RoomForTwo t l → ShareNone c d → Valid c t r l → Valid d t r l
+    → (answerOf c t r l ≡ accepted) × ((answerOf d (tableAfter c t r l) r (ledgerAfter c t r l) ≡ accepted) × SameEnd c d t r l)
+both-accepted c d t r l room none v w =
+    let p = valid-accepted c t r l v in
+    let q = valid-accepted d t r l w in
+    (p, (alone c d t r l room none ∙ q, same-end c d t r l room none (ap (λ (a : Answer). a .number) p) (ap (λ (a : Answer). a .number) q)))
+
+pub one-accepted : (c d t r : List ℕ) (l : Ledger) → RoomForTwo t l → Valid c t r l → Valid d t r l → (nullifierOf 1 c ≡ nullifierOf 1 d) ⊎ (nullifierOf 2 c ≡ nullifierOf 1 d)
+    → (answerOf c t r l ≡ accepted) × (answerOf d (tableAfter c t r l) r (ledgerAfter c t r l) ≡ answer 8 1)
+one-accepted c d t r l room v w s =
+    let p = valid-accepted c t r l v in
+    let q = valid-accepted d t r l w in
+    (p, refused-at-1 c d t r l room (ap (λ (a : Answer). a .number) p) (ap (λ (a : Answer). a .number) q) s)

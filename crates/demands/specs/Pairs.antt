@@ -1,0 +1,31 @@
+-- Two cases on one ledger, as the third demand speaks of them.
+-- Assumes nothing.
+use Prim.Native.Nat.{ℕ, _+_, _≤_}
+use mathlib.Core.Path.{_≡_}
+use mathlib.Core.Bool.{true}
+use mathlib.Core.List.{List, [], _∷_}
+use lib.ListN.{length}
+use Rattle.units.specs.Pairs.{ForBoth}
+use Rattle.casefile.specs.Fields.{hasLength, nullifierOf, commitmentOf}
+use Rattle.tree.specs.Record.{grown}
+use Rattle.ledger.specs.declared.Ledger.{Ledger}
+use Rattle.ledger.specs.Ledgers.{mostNullifiers, roomIn}
+use Rattle.judge.specs.Judging.{ledgerAfter, tableAfter}
+
+-- they share no nullifier; a file of the wrong length has none
+abbrev pub ShareNone : List ℕ → List ℕ → Type 0
+ShareNone c d = hasLength c ≡ true → hasLength d ≡ true → ForBoth (λ i. ForBoth (λ j. nullifierOf i c ≡ nullifierOf j d → ⊥))
+
+-- the table has two free rows for each
+abbrev pub RoomForTwo : List ℕ → Ledger → Type 0
+RoomForTwo t l = l .nullifiers + 4 ≤ roomIn mostNullifiers (length t)
+
+-- c and then d, and d and then c, end alike: in the table's bytes, the counts and the pool (the roll does not move); and the records are the first one
+-- with the two pairs of commitments appended in one order or the other
+pub record SameEnd (c d t r : List ℕ) (l : Ledger) : Type 0 where
+  pub table : tableAfter d (tableAfter c t r l) r (ledgerAfter c t r l) ≡ tableAfter c (tableAfter d t r l) r (ledgerAfter d t r l)
+  pub nullifiers : ledgerAfter d (tableAfter c t r l) r (ledgerAfter c t r l) .nullifiers ≡ ledgerAfter c (tableAfter d t r l) r (ledgerAfter d t r l) .nullifiers
+  pub anchors : ledgerAfter d (tableAfter c t r l) r (ledgerAfter c t r l) .anchors ≡ ledgerAfter c (tableAfter d t r l) r (ledgerAfter d t r l) .anchors
+  pub pool : ledgerAfter d (tableAfter c t r l) r (ledgerAfter c t r l) .pool .0 ≡ ledgerAfter c (tableAfter d t r l) r (ledgerAfter d t r l) .pool .0
+  pub c-first : ledgerAfter d (tableAfter c t r l) r (ledgerAfter c t r l) .tree ≡ grown (l .tree) (commitmentOf 1 c ∷ commitmentOf 2 c ∷ commitmentOf 1 d ∷ commitmentOf 2 d ∷ [])
+  pub d-first : ledgerAfter c (tableAfter d t r l) r (ledgerAfter d t r l) .tree ≡ grown (l .tree) (commitmentOf 1 d ∷ commitmentOf 2 d ∷ commitmentOf 1 c ∷ commitmentOf 2 c ∷ [])

@@ -1,0 +1,149 @@
+// Runs the published vectors of the standards and of the Zcash network, and lengths at which padding
+// turns over, and prints a line for each. The stored output was made by other implementations.
+use tree::Tree;
+
+fn digest(name: &[u8], bytes: &[u8]) {
+    lines::text(name);
+    lines::text(b" ");
+    lines::hex(bytes);
+    lines::end();
+}
+
+fn sha(name: &[u8], message: &[u8]) {
+    let d = sha256::hash(message);
+    digest(name, &d);
+}
+
+// The first bytes, or all where there are no more.
+fn start(name: &[u8], bytes: &[u8], length: usize) {
+    if length <= bytes.len() {
+        digest(name, &bytes[0..length]);
+    } else {
+        digest(name, bytes);
+    }
+}
+
+fn blake(name: &[u8], message: &[u8], length: usize) {
+    let answer = blake2b::hash(message, &[0u8; 16], length);
+    if answer.ok {
+        start(name, &answer.bytes, length);
+    } else {
+        lines::text(name);
+        lines::text(b" refused\n");
+    }
+}
+
+// FIPS 180-4's examples, and messages of as many a's as the name says.
+fn sha_vectors() {
+    sha(b"sha256 empty", b"");
+    sha(b"sha256 abc", b"abc");
+    sha(
+        b"sha256 448 bits",
+        b"abcdbcdecdefdefgefghfghighijhijkijkljklmklmnlmnomnopnopq",
+    );
+    sha(
+        b"sha256 896 bits",
+        b"abcdefghbcdefghicdefghijdefghijkefghijklfghijklmghijklmnhijklmnoijklmnopjklmnopqklmnopqrlmnopqrsmnopqrstnopqrstu",
+    );
+    let a = [97u8; 129];
+    sha(b"sha256 a 55", &a[0..55]);
+    sha(b"sha256 a 56", &a[0..56]);
+    sha(b"sha256 a 63", &a[0..63]);
+    sha(b"sha256 a 64", &a[0..64]);
+    sha(b"sha256 a 65", &a[0..65]);
+    sha(b"sha256 a 111", &a[0..111]);
+    sha(b"sha256 a 112", &a[0..112]);
+    sha(b"sha256 a 127", &a[0..127]);
+    sha(b"sha256 a 128", &a[0..128]);
+    sha(b"sha256 a 129", &a[0..129]);
+}
+
+fn million() {
+    let a = [97u8; 1000000];
+    sha(b"sha256 a 1000000", &a);
+}
+
+// One block from the standard start value, with no padding.
+fn compress_vectors() {
+    let zeros = [0u8; 64];
+    let d = sha256::compress(&zeros);
+    digest(b"compress zeros", &d);
+    let mut abc = [0u8; 64];
+    abc[0] = 97;
+    abc[1] = 98;
+    abc[2] = 99;
+    abc[3] = 0x80;
+    abc[63] = 24;
+    let e = sha256::compress(&abc);
+    digest(b"compress abc", &e);
+    let left = [0u8; 32];
+    let f = sha256::compress_halves(&left, &left);
+    digest(b"compress halves zeros", &f);
+}
+
+// The 255 bytes 00, 01 and on to fe.
+fn counted() -> [u8; 255] {
+    let mut bytes = [0u8; 255];
+    for i in 0..255 {
+        bytes[i] = (i % 256) as u8;
+    }
+    bytes
+}
+
+// RFC 7693 and the BLAKE2 reference.
+fn blake_published() {
+    blake(b"blake2b-64 abc", b"abc", 64);
+    blake(b"blake2b-64 empty", b"", 64);
+    blake(b"blake2b-32 empty", b"", 32);
+    let bytes = counted();
+    blake(b"blake2b-64 00..fe", &bytes, 64);
+}
+
+// Around the block's 128 bytes, other digest lengths, and the two lengths that are refused.
+fn blake_edges() {
+    let a = [97u8; 257];
+    blake(b"blake2b-64 a 111", &a[0..111], 64);
+    blake(b"blake2b-64 a 112", &a[0..112], 64);
+    blake(b"blake2b-64 a 127", &a[0..127], 64);
+    blake(b"blake2b-64 a 128", &a[0..128], 64);
+    blake(b"blake2b-64 a 129", &a[0..129], 64);
+    blake(b"blake2b-20 a 256", &a[0..256], 20);
+    blake(b"blake2b-1 a 257", &a, 1);
+    blake(b"blake2b-0 abc", b"abc", 0);
+    blake(b"blake2b-65 abc", b"abc", 65);
+}
+
+// hSig: the public node's own test, and all zero bytes.
+fn h_sig_vectors() {
+    let d = sprout::h_sig(&[0x61u8; 32], &[0x62u8; 32], &[0x63u8; 32], &[0x64u8; 32]);
+    digest(b"hSig 61 62 63 64", &d);
+    let zeros = [0u8; 32];
+    let e = sprout::h_sig(&zeros, &zeros, &zeros, &zeros);
+    digest(b"hSig zeros", &e);
+}
+
+// The empty tree's root, which the network published, from the table of empty roots and from a fresh
+// record; and the root after three leaves.
+fn tree_vectors() {
+    let from_table = nodes::empty_root(29);
+    digest(b"root empty", &from_table);
+    let fresh = Tree::fresh();
+    let from_record = fresh.root();
+    digest(b"root fresh", &from_record);
+    let three = fresh
+        .with_leaf([1u8; 32])
+        .with_leaf([2u8; 32])
+        .with_leaf([3u8; 32]);
+    let d = three.root();
+    digest(b"root 01 02 03", &d);
+}
+
+fn main() {
+    sha_vectors();
+    million();
+    compress_vectors();
+    blake_published();
+    blake_edges();
+    h_sig_vectors();
+    tree_vectors();
+}

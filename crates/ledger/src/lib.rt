@@ -6,6 +6,7 @@ mod order;
 mod roll;
 mod table;
 
+pub use money::size;
 ghost use mathlib.Core.Path.{_≡_};
 ghost use mathlib.Core.Bool.{true};
 ghost use Prim.Native.Nat.{_*_, _≤_};

@@ -1,4 +1,4 @@
-mod Bits
+pub mod Bits
 mod Marked
 pub mod PullLaws
 mod Zeros

@@ -2,7 +2,7 @@
 // after the other, and a line printed for each. It keeps one ledger and the two buffers lent to it.
 // What an entry's answer is, is left to `judge`, `ledger` and `seal`.
 ghost use mathlib.Core.Path.{_≡_};
-ghost use mathlib.Core.Bool.{cond};
+ghost use mathlib.Core.Bool.{false, cond};
 ghost use Prim.Native.Nat.{_≤_, _/_, min};
 ghost use lib.ListN.{length};
 ghost use lib.Ieee.{binary64, isNan, toBits};
@@ -23,7 +23,7 @@ use tree::Tree;
 // What is kept from entry to entry: the ledger, how many bytes of each buffer are lent to it, and
 // whether the run goes on.
 pub struct State {
-    pub goes_on: bool,
+    pub on: bool,
     pub ledger: Ledger,
     pub table: usize,
     pub roll: usize,
@@ -73,8 +73,8 @@ fn fill(bytes: &mut [u8], body: &[u8], at: usize)
 }
 
 // A ledger with nothing in it, not even an anchor, on buffers of no length.
-fn nothing(goes_on: bool) -> State
-    ensures { λ r. ⌜ (r .ledger ≡ startOf 0) × ((r .table ≡ 0) × (r .roll ≡ 0)) ⌝ }
+fn nothing(on: bool) -> State
+    ensures { λ r. ⌜ (r .on ≡ on) × ((r .ledger ≡ startOf 0) × ((r .table ≡ 0) × (r .roll ≡ 0))) ⌝ }
 {
     let ledger = Ledger {
         nullifiers: 0,
@@ -83,7 +83,7 @@ fn nothing(goes_on: bool) -> State
         pool: Pool(0),
     };
     State {
-        goes_on,
+        on,
         ledger,
         table: 0,
         roll: 0,
@@ -131,14 +131,14 @@ fn bits_of(pull: f64) -> u64
 }
 
 // A word, with the space after it, and a number.
-fn print(word: &[u8], n: u64) {
+fn print_number(word: &[u8], n: u64) {
     lines::text(word);
     lines::number(n);
 }
 
 fn print_answer(word: &[u8], a: Answer) {
-    print(word, wide8(a.number));
-    print(b" ", wide8(a.place));
+    print_number(word, wide8(a.number));
+    print_number(b" ", wide8(a.place));
 }
 
 fn print_line(word: &[u8], a: Answer) {
@@ -156,9 +156,9 @@ fn print_pool(pool: Pool) {
 
 fn print_ledger(l: Ledger) {
     let tree = l.tree;
-    print(b"ledger spent ", l.nullifiers as u64);
-    print(b" leaves ", wide(tree.leaves));
-    print(b" anchors ", l.anchors as u64);
+    print_number(b"ledger spent ", l.nullifiers as u64);
+    print_number(b" leaves ", wide(tree.leaves));
+    print_number(b" anchors ", l.anchors as u64);
     print_pool(l.pool);
     lines::text(b" root ");
     let root = tree.root();
@@ -166,7 +166,7 @@ fn print_ledger(l: Ledger) {
     lines::end();
 }
 
-// How many of the rows that a count claims the bytes have.
+// How many of the rows that a count claims so many bytes have.
 fn rows_in(count: usize, len: usize) -> usize
     ensures { λ r. ⌜ r ≡ min count (len / 32) ⌝ }
 {
@@ -198,9 +198,9 @@ fn print_sealed(s: Sealed) {
     lines::end();
 }
 
-// What is no tape ends the run.
+// Whatever breaks the tape's layout ends the run.
 fn broken() -> State
-    ensures { λ r. ⌜ (r .table ≡ 0) × (r .roll ≡ 0) ⌝ }
+    ensures { λ r. ⌜ (r .on ≡ false) × ((r .table ≡ 0) × (r .roll ≡ 0)) ⌝ }
 {
     print_line(b"tape ", Answer::refused(50, 0));
     nothing(false)
@@ -224,7 +224,7 @@ fn run_open(body: &[u8], table: &mut [u8], roll: &mut [u8]) -> State
     print_line(b"open ", a.answer);
     let ledger = a.ledger;
     State {
-        goes_on: true,
+        on: true,
         ledger,
         table: t,
         roll: r,
@@ -250,7 +250,7 @@ fn run_plant(body: &[u8], table: &mut [u8], roll: &mut [u8]) -> State
     print_line(b"plant ", Answer::accepted());
     let ledger = planted(body);
     State {
-        goes_on: true,
+        on: true,
         ledger,
         table: t,
         roll: r,
@@ -267,7 +267,7 @@ fn run_case(body: &[u8], table: &mut [u8], roll: &[u8], state: State) -> State
     print_line(b"case ", a.answer);
     let ledger = a.ledger;
     State {
-        goes_on: true,
+        on: true,
         ledger,
         table: t,
         roll: r,
@@ -284,7 +284,7 @@ fn run_block(table: &[u8], roll: &mut [u8], state: State) -> State
     print_line(b"block ", a.answer);
     let ledger = a.ledger;
     State {
-        goes_on: true,
+        on: true,
         ledger,
         table: t,
         roll: r,
@@ -360,7 +360,8 @@ fn run(kind: u8, body: &[u8], table: &mut [u8], roll: &mut [u8], state: State) -
     run_bare(kind, table, roll, state)
 }
 
-// Reads the next entry's body to the start of a buffer as long as the longest body.
+// Reads the next entry's body to the start of a buffer as long as the longest body. A read that fails
+// counts as the tape's end.
 fn read_next(buffer: &mut [u8]) -> Next
     ensures { λ r. ⌜ lengthOf r ≤ length (now (buffer .exit)) ⌝ }
 {
@@ -396,20 +397,20 @@ fn turn(buffer: &mut [u8], table: &mut [u8], roll: &mut [u8], state: State) -> S
 
 // A proved loop has to end, and nothing says that a tape does: the turns count down from a number
 // that no run uses up.
-fn replay(buffer: &mut [u8], table: &mut [u8], roll: &mut [u8]) {
+fn play(buffer: &mut [u8], table: &mut [u8], roll: &mut [u8]) {
     let mut state = nothing(true);
     let mut turns = u64::MAX;
-    while turns > 0 && state.goes_on {
+    while turns > 0 && state.on {
         state = turn(buffer, table, roll, state);
         turns -= 1;
     }
 }
 
-// The longest body, the longest table and the longest roll that a tape may have. The last two are the
-// most rows that a ledger uses, and all but one byte of another.
+// The longest body, table and roll that a tape may have. A table of 65,567 bytes has the 2,048 rows that
+// a ledger may use and 31 bytes more, a roll of 32,799 bytes the 1,024 and 31 more.
 fn main() {
     let mut buffer = [0u8; 131072];
     let mut table = [0u8; 65567];
     let mut roll = [0u8; 32799];
-    replay(&mut buffer, &mut table, &mut roll);
+    play(&mut buffer, &mut table, &mut roll);
 }

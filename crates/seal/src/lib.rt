@@ -130,6 +130,7 @@ fn float_of(bits: u64) -> f64
     f64::from_bits(bits)
 }
 
+// The float at index at, of eight bytes.
 pub fn float_at(bytes: &[u8], at: usize) -> f64
     ensures { λ r. ⌜ r ≡ floatOf (field at 8 (now (bytes .entry))) ⌝ }
 {

@@ -1,11 +1,10 @@
 use Prim.Native.Nat.{ℕ}
-use mathlib.Core.Path.{_≡_, refl, sym, ap, subst, _∙_}
+use mathlib.Core.Path.{_≡_, refl, sym, subst}
 use mathlib.Core.Bool.{Bool, true, false, cond, not}
 use lib.Dec.{T}
-use lib.Ieee.{binary64, isNan, toBits}
+use lib.Ieee.{isNan}
 use lib.Ieee.Compare.{differs-from-itself}
 use Rattle.seal.proofs.Bits.{same-no-nan}
-use borrow.Author.Needs.{needs}
 use Rattle.replay.proofs.bits_of.Statement.{statement}
 use Rattle.replay.proofs.bits_of.Tie as tie
 

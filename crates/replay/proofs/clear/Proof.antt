@@ -1,10 +1,10 @@
 use Prim.Native.Nat.{ℕ, _-_, _<_, _≤_}
-use mathlib.Core.Path.{_≡_, sym, ap, _∙_}
+use mathlib.Core.Path.{_≡_, ap, _∙_}
 use mathlib.Core.List.{List, _++_, append-nil}
 use lib.ListN.{length, set, drop, replicate, length-set}
 use native.Mathlib.Omega.{arith}
 use lib.Seq.{drop-length}
-use borrow.Author.Fill.{fill-none, fill-more}
+use borrow.Author.Fill.{fill-more}
 use borrow.Author.Needs.{needs}
 use Rattle.replay.proofs.clear.Statement.{statement}
 use Rattle.replay.proofs.clear.Tie as tie

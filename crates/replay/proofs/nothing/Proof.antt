@@ -1,7 +1,4 @@
-use mathlib.Core.Path.{_≡_, refl, ap}
-use lib.IntN.{pos}
-use Rattle.tree.specs.declared.Tree.{Tree}
-use Rattle.ledger.specs.declared.Ledger.{Ledger}
+use mathlib.Core.Path.{refl}
 use Rattle.ledger.specs.Ledgers.{startOf}
 use borrow.Author.Needs.{needs}
 use Rattle.replay.proofs.nothing.Statement.{statement}
@@ -9,7 +6,7 @@ use Rattle.replay.proofs.nothing.Tie as tie
 
 returns : tie.Need-returns
 unfolding startOf
-returns c = (cc (c .fresh .ensures), (refl, refl))
+returns c = (refl, (cc (c .fresh .ensures), (refl, refl)))
 
 pub nothing-spec : {M : Type 1} → statement M
 nothing-spec = tie.close (tie.spec (λ c κs. search needs) returns)

@@ -1,9 +1,7 @@
 use mathlib.Core.List.{List}
-use lib.ListN.{length}
-use Rattle.octets.specs.Parts.{zeros}
 use Rattle.refusals.specs.Table.{first}
 use Rattle.ledger.specs.Ledgers.{openTable, openedOf, rollAfterOpen}
-use mathlib.Core.Path.{_≡_, ap, _∙_}
+use mathlib.Core.Path.{ap, _∙_}
 use Prim.Native.Nat.{ℕ}
 use borrow.Author.Needs.{needs}
 use Rattle.replay.proofs.opened.Statement.{statement}

@@ -1,4 +1,3 @@
-use mathlib.Core.Path.{_≡_, refl, _∙_}
 use mir.Syntax.{w64}
 use mir.Facts.{toZ-ofZ}
 use Rattle.replay.specs.Tape.{plantedOf}

@@ -16,7 +16,11 @@ pub not-leb : (a b : ℕ) → not (leb a b) ≡ ltb b a
 not-leb a b =
     by-test (leb a b) (λ e. rw e (sym (le-ltb b a (leb-true a b e)))) (λ e. rw e (sym (lt-ltb b a (leb-false a b e))))
 
--- two sums that have the same whole times 2 ^ 32 are equal where the rests are
+-- two sums, each a whole times 2 ^ 32 and a rest: they are unequal where the wholes are
+pub wholes-decide : (h l k m s t : ℕ) → h * 2 ^ 32 + l ≡ s → k * 2 ^ 32 + m ≡ t → l < 2 ^ 32 → m < 2 ^ 32 → (h ≡ k → ⊥) → false ≡ eqb s t
+wholes-decide h l k m s t p q hl hm n = sym (ne-eqb s t (λ e. n (omega arith)))
+
+-- with the same whole they are equal where the rests are
 pub rests-decide : (h l m s t : ℕ) → h * 2 ^ 32 + l ≡ s → h * 2 ^ 32 + m ≡ t → eqb l m ≡ eqb s t
 rests-decide h l m s t p q =
     by-test (eqb l m)

@@ -1,3 +1,7 @@
+use mathlib.Core.Path.{ap, _∙_}
+use mathlib.Core.List.{List, _++_}
+use Prim.Native.Nat.{ℕ}
+use Rattle.sha256.specs.Compression.{compressOf}
 use Rattle.sprout.specs.Hashes.{tagged}
 use borrow.Author.Needs.{needs}
 use Rattle.sprout.proofs.tagged.Statement.{statement}
@@ -5,7 +9,9 @@ use Rattle.sprout.proofs.tagged.Tie as tie
 
 returns : tie.Need-returns
 unfolding tagged
-returns c = cc
+returns c =
+    let w = c .before .before in
+    c .compress-halves .ensures ∙ ap (λ (k : List ℕ). compressOf (k ++ w .before .args .rest .now)) (w .with-tag .ensures)
 
 pub tagged-spec : {M : Type 1} → statement M
 tagged-spec = tie.close (tie.spec (λ c κs. search needs) (λ c κs. search needs) returns)

@@ -1,11 +1,10 @@
-use mathlib.Core.Path.{_≡_, sym, ap, _∙_}
-use Prim.Native.Nat.{ℕ, _+_, _*_, _^_}
+use mathlib.Core.Path.{_≡_}
+use Prim.Native.Nat.{_+_, _*_, _^_}
 use native.Mathlib.Omega.{arith}
-use borrow.Author.Tests.{ne-eqb}
 use Rattle.casefile.specs.Fields.{vpubOldOf, vpubNewOf, oldValueOf, newValueOf}
 use Rattle.statement.specs.CaseTable.{balancedOf}
 use Rattle.statement.specs.Conditions.{balanced}
-use Rattle.statement.proofs.TestLaws.{rests-decide}
+use Rattle.statement.proofs.TestLaws.{wholes-decide, rests-decide}
 use borrow.Author.Needs.{needs}
 use Rattle.statement.proofs.is_balanced.Statement.{statement}
 use Rattle.statement.proofs.is_balanced.Tie as tie
@@ -16,8 +15,11 @@ returns c =
     let two = c .before .before .before in
     let one = two .before .before in
     let case = one .before .before .before .before .before .before .before .args .case .now in
-    let differ : vpubOldOf case + oldValueOf 1 case + oldValueOf 2 case ≡ vpubNewOf case + newValueOf 1 case + newValueOf 2 case → ⊥ = λ e. c .if1 .taken (omega arith) in
-    sym (ne-eqb _ _ differ)
+    let h = one .sum .result .high in
+    let k = two .sum2 .result .high in
+    let paid : h * 2 ^ 32 + one .sum .result .low ≡ vpubOldOf case + oldValueOf 1 case + oldValueOf 2 case = omega arith in
+    let made : k * 2 ^ 32 + two .sum2 .result .low ≡ vpubNewOf case + newValueOf 1 case + newValueOf 2 case = omega arith in
+    wholes-decide h (one .sum .result .low) k (two .sum2 .result .low) _ _ paid made (one .sum .ensures .1) (two .sum2 .ensures .1) (c .if1 .taken)
 
 returns-2 : tie.Need-returns-2
 unfolding balancedOf balanced

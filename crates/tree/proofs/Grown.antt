@@ -84,11 +84,20 @@ leaf-long [] j h = refl
 leaf-long (x ∷ xs) zero h = h .0
 leaf-long (x ∷ xs) (suc j) h = leaf-long xs j (h .1)
 
+-- a node above the leaves has 32 bytes, and so has the root, whatever the leaves are
+above-long : (f : ℕ → List ℕ) (k j : ℕ) → length (nodeAt parentOf f (suc k) j) ≡ 32
+unfolding nodeAt
+above-long f k j = parent-length (nodeAt parentOf f k (2 * j)) (nodeAt parentOf f k (2 * j + 1))
+
+pub root-long : (leaves : List (List ℕ)) → length (treeRoot leaves) ≡ 32
+unfolding treeRoot rootOf
+root-long leaves = above-long (λ j. getD leaves j emptyLeaf) 28 0
+
 module _ (f : ℕ → List ℕ) (s : (j : ℕ) → length (f j) ≡ 32) where
   node-long : (k j : ℕ) → length (nodeAt parentOf f k j) ≡ 32
   unfolding nodeAt
   node-long zero j = s j
-  node-long (suc k) j = parent-length (nodeAt parentOf f k (2 * j)) (nodeAt parentOf f k (2 * j + 1))
+  node-long (suc k) j = above-long f k j
 
   path-long : (d k i : ℕ) → Long (pathFrom parentOf f d k i)
   unfolding pathFrom Long

@@ -1,3 +1,4 @@
+pub mod AfterOne
 pub mod Carried
 pub mod Demand1
 pub mod Demand2

@@ -1,2 +1,3 @@
+pub mod Histories
 pub mod Pairs
 pub mod Validity

@@ -13,6 +13,7 @@ use lib.Dec.{ltb}
 use lib.ListN.{length}
 use Rattle.octets.specs.Parts.{same}
 use Rattle.octets.specs.Rows.{Long}
+use Rattle.octets.proofs.PartLaws.{same-eq}
 use Rattle.refusals.specs.declared.Answer.{Answer}
 use Rattle.refusals.specs.Table.{Row, answer, accepted, isAccepted, first, rowsIn, lower}
 use Rattle.refusals.proofs.TableLaws.{by-test}
@@ -30,7 +31,7 @@ use Rattle.ledger.proofs.TableLaws.{either-order}
 use Rattle.judge.specs.Judging.{judgeTable, answerOf, ledgerAfter, tableAfter}
 use Rattle.judge.proofs.Halves.{answer-lower}
 use Rattle.judge.proofs.Outcomes.{refused-ledger, refused-table}
-use Rattle.demands.specs.Pairs.{ShareNone, RoomForTwo, SameEnd}
+use Rattle.demands.specs.Pairs.{ShareNone, IsOneOf, ShareSome, at-1, at-2, RoomForTwo, SameEnd, OneOfTwo}
 use Rattle.demands.specs.Validity.{Valid}
 use Rattle.demands.proofs.Demand2.{accepted-valid, valid-accepted}
 use Rattle.demands.proofs.OneCase.{sound-before, ready-before, table-is, ledger-is, length-then, rows-then, sound-then, other-then, own-then, nullifier-long}
@@ -197,3 +198,28 @@ one-accepted c d t r l room v w s =
     let p = valid-accepted c t r l v in
     let q = valid-accepted d t r l w in
     (p, refused-at-1 c d t r l room (ap (λ (a : Answer). a .number) p) (ap (λ (a : Answer). a .number) q) s)
+
+-- WHICHEVER NULLIFIER THEY SHARE, the first passes and the second is refused at the lowest place that was spent
+one-of : (c x : List ℕ) → IsOneOf c x ⊎ (IsOneOf c x → ⊥)
+one-of c x =
+    by-test (same (nullifierOf 1 c) x)
+    (λ e. inl (inl (same-eq (nullifierOf 1 c) x e)))
+    (λ e. by-test (same (nullifierOf 2 c) x) (λ f. inl (inr (same-eq (nullifierOf 2 c) x f))) (λ f. inr (λ s. ⊎-elim (unlike .0 e) (unlike .0 f) s)))
+
+pub shared-refused : (c d t r : List ℕ) (l : Ledger) → RoomForTwo t l → Valid c t r l → Valid d t r l → ShareSome c d → OneOfTwo c d t r l
+shared-refused c d t r l room v w s = go (one-of c (nullifierOf 1 d)) s
+  where
+    p : answerOf c t r l ≡ accepted
+    p = valid-accepted c t r l v
+
+    h : answerOf c t r l .number ≡ 0
+    h = ap (λ (a : Answer). a .number) p
+
+    k : answerOf d t r l .number ≡ 0
+    k = ap (λ (a : Answer). a .number) (valid-accepted d t r l w)
+
+    go : IsOneOf c (nullifierOf 1 d) ⊎ (IsOneOf c (nullifierOf 1 d) → ⊥) → ShareSome c d → OneOfTwo c d t r l
+    go (inl one) q = record { c-passes = p; place = 1; lowest = at-1 one; d-refused = refused-at-1 c d t r l room h k one }
+    go (inr none) (inl one) = absurd (none one)
+    go (inr none) (inr two) =
+        record { c-passes = p; place = 2; lowest = at-2 none two; d-refused = refused-at-2 c d t r l room h k (λ e. none (inl e)) (λ e. none (inr e)) two }

@@ -6,10 +6,10 @@ mod order;
 mod roll;
 mod table;
 
-pub use money::size;
 ghost use mathlib.Core.Path.{_≡_};
 ghost use mathlib.Core.Bool.{true};
 ghost use Prim.Native.Nat.{_*_, _≤_};
+ghost use lib.IntN.{natAbs};
 ghost use lib.ListN.{length};
 ghost use Rattle.refusals.specs.Table.{first, lower};
 ghost use Rattle.ledger.specs.Sorted.{rising};
@@ -27,6 +27,15 @@ pub enum Found {
 
 // What went into the pool less what came out of it, in zatoshi. It may be below zero.
 pub struct Pool(pub i64);
+
+impl Pool {
+    // How far it is from zero, for whoever prints it.
+    pub fn size(self) -> u64
+        ensures { λ r. ⌜ r ≡ natAbs (self .0) ⌝ }
+    {
+        money::size(self)
+    }
+}
 
 // What a ledger keeps beside its table and its roll.
 pub struct Ledger {

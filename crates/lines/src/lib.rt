@@ -14,6 +14,14 @@ pub fn number(n: u64) {
     io::print_decimal(STDOUT_FILENO, n);
 }
 
+// A number with its sign: how far it is from zero, and whether it is below.
+pub fn signed(below: bool, size: u64) {
+    if below {
+        text(b"-");
+    }
+    number(size);
+}
+
 // A number of 16 hex digits, the highest first.
 pub fn hex64(n: u64) {
     io::print_hex(STDOUT_FILENO, n, 16);

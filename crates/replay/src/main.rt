@@ -148,10 +148,7 @@ fn print_line(word: &[u8], a: Answer) {
 
 fn print_pool(pool: Pool) {
     lines::text(b" pool ");
-    if pool.0 < 0 {
-        lines::text(b"-");
-    }
-    lines::number(ledger::size(pool));
+    lines::signed(pool.0 < 0, pool.size());
 }
 
 fn print_ledger(l: Ledger) {

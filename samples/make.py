@@ -1,0 +1,253 @@
+#!/usr/bin/env python3
+"""Writes the sample bags, and beside each the lines that the scanner must print of it.
+
+    python3 samples/make.py
+
+Every run writes the same bytes. Everything here follows the published documents and nothing of the
+Rattle code: SHA-256 and BLAKE2b come from Python's library, and the bare compression, which no
+library offers, is written out from FIPS 180-4 and held against that library at each run. What a
+bag must be answered is stated by hand, from the rules, beside the bag.
+
+The first sample is also the stored run of the program: it goes to crates/scanner/ a second time.
+"""
+
+import hashlib
+import struct
+from math import isqrt
+from pathlib import Path
+
+HERE = Path(__file__).resolve().parent
+PROGRAM = HERE.parent / "crates" / "scanner"
+
+MAX_MONEY = 2_100_000_000_000_000
+DEPTH = 29
+
+
+# ---- SHA-256's compression (FIPS 180-4) ------------------------------------------------------
+
+def primes(count):
+    found = []
+    n = 2
+    while len(found) < count:
+        if all(n % p for p in found):
+            found.append(n)
+        n += 1
+    return found
+
+
+def cube_root(n):
+    """The whole part of n's cube root."""
+    low, high = 0, 1 << (n.bit_length() // 3 + 1)
+    while low < high:
+        mid = (low + high + 1) // 2
+        if mid ** 3 <= n:
+            low = mid
+        else:
+            high = mid - 1
+    return low
+
+
+MASK = 0xFFFFFFFF
+# The first 32 bits of the fractions of the square roots of 8 primes and the cube roots of 64.
+START = [isqrt(p << 64) & MASK for p in primes(8)]
+K = [cube_root(p << 96) & MASK for p in primes(64)]
+
+
+def rotr(x, n):
+    return (x >> n | x << (32 - n)) & MASK
+
+
+def compress(block, start=START):
+    """One compression of a block of 64 bytes, with no padding; eight big-endian words."""
+    w = list(struct.unpack(">16I", block))
+    for t in range(16, 64):
+        s0 = rotr(w[t - 15], 7) ^ rotr(w[t - 15], 18) ^ w[t - 15] >> 3
+        s1 = rotr(w[t - 2], 17) ^ rotr(w[t - 2], 19) ^ w[t - 2] >> 10
+        w.append((s1 + w[t - 7] + s0 + w[t - 16]) & MASK)
+    a, b, c, d, e, f, g, h = start
+    for t in range(64):
+        big1 = rotr(e, 6) ^ rotr(e, 11) ^ rotr(e, 25)
+        t1 = h + big1 + (e & f ^ ~e & g) + K[t] + w[t]
+        big0 = rotr(a, 2) ^ rotr(a, 13) ^ rotr(a, 22)
+        t2 = big0 + (a & b ^ a & c ^ b & c)
+        a, b, c, d, e, f, g, h = (t1 + t2) & MASK, a, b, c, (d + t1) & MASK, e, f, g
+    return struct.pack(">8I", *((x + y) & MASK for x, y in zip(start, (a, b, c, d, e, f, g, h))))
+
+
+def check_compression():
+    """Padded messages, compressed block by block, have the digest that the library gives them."""
+    for message in (b"", b"abc", bytes(range(64)), b"\xff" * 64):
+        zeros = bytes((55 - len(message)) % 64)
+        blocks = message + b"\x80" + zeros + struct.pack(">Q", 8 * len(message))
+        digest = struct.pack(">8I", *START)
+        for at in range(0, len(blocks), 64):
+            digest = compress(blocks[at:at + 64], struct.unpack(">8I", digest))
+        assert digest == hashlib.sha256(message).digest()
+
+
+# ---- What a note and its keys give -----------------------------------------------------------
+
+def tagged(tag, key, rest):
+    """Compress, the four bits of the tag over the top four bits of the key."""
+    return compress(bytes([tag << 4 | key[0] & 0x0F]) + key[1:] + rest)
+
+
+def address(a_sk):
+    return tagged(0b1100, a_sk, bytes(32))
+
+
+def nullifier(a_sk, rho):
+    return tagged(0b1110, a_sk, rho)
+
+
+def mac(i, a_sk, h_sig):
+    return tagged(0b0000 | (i - 1) << 2, a_sk, h_sig)
+
+
+def new_rho(i, phi, h_sig):
+    return tagged(0b0010 | (i - 1) << 2, phi, h_sig)
+
+
+def commitment(a_pk, value, rho, r):
+    return hashlib.sha256(b"\xb0" + a_pk + struct.pack("<Q", value) + rho + r).digest()
+
+
+def h_sig_of(seed, nullifiers, key):
+    message = seed + nullifiers[0] + nullifiers[1] + key
+    return hashlib.blake2b(message, digest_size=32, person=b"ZcashComputehSig").digest()
+
+
+def empty_root():
+    node = bytes(32)
+    for _ in range(DEPTH):
+        node = compress(node + node)
+    return node
+
+
+# ---- Cases -----------------------------------------------------------------------------------
+
+def secret(label):
+    return hashlib.sha256(b"Snaldrek sample: " + label.encode()).digest()
+
+
+def short_key(label):
+    """A secret of 252 bits: its top four are zero."""
+    s = secret(label)
+    return bytes([s[0] & 0x0F]) + s[1:]
+
+
+def old_note(label, value=0):
+    """An old note at position 0 with a path of zeros; without a value it needs no true one."""
+    a_sk = short_key(label + " a_sk")
+    return {
+        "a_sk": a_sk, "a_pk": address(a_sk), "value": value, "rho": secret(label + " rho"),
+        "r": secret(label + " r"), "position": 0, "path": bytes(DEPTH * 32),
+    }
+
+
+def case(label, vpub_old=0, vpub_new=0, old=None, new=(0, 0), anchor=None):
+    """A case that is right in itself: all that it claims is what its notes and keys give."""
+    old = old or [old_note(label + " old 1"), old_note(label + " old 2")]
+    phi = short_key(label + " phi")
+    seed = secret(label + " seed")
+    key = secret(label + " transaction key")
+    nullifiers = [nullifier(n["a_sk"], n["rho"]) for n in old]
+    h_sig = h_sig_of(seed, nullifiers, key)
+    notes = []
+    for i, value in enumerate(new, 1):
+        a_pk = address(short_key(f"{label} receiver {i}"))
+        notes.append((a_pk, value, new_rho(i, phi, h_sig), secret(f"{label} new {i} r")))
+    description = b"".join([
+        struct.pack("<QQ", vpub_old, vpub_new),
+        anchor or empty_root(),
+        *nullifiers,
+        *(commitment(*n) for n in notes),
+        b"\x11" * 32,  # the ephemeral key: carried, and never checked
+        seed,
+        *(mac(i, n["a_sk"], h_sig) for i, n in enumerate(old, 1)),
+        b"\x22" * 296,  # the proof: likewise
+        b"\x33" * (2 * 601),  # the ciphertexts: likewise
+    ])
+    witness = b"".join([
+        *(n["a_sk"] + n["a_pk"] + struct.pack("<Q", n["value"]) + n["rho"] + n["r"]
+          + struct.pack("<I", n["position"]) + n["path"] for n in old),
+        *(a_pk + struct.pack("<Q", value) + rho + r for a_pk, value, rho, r in notes),
+        phi,
+    ])
+    file = description + key + witness
+    assert len(description) == 1802 and len(file) == 4210
+    return file
+
+
+def with_byte_changed(file, at):
+    return file[:at] + bytes([file[at] ^ 1]) + file[at + 1:]
+
+
+# ---- Bags ------------------------------------------------------------------------------------
+
+def seal(kind, raw, low=0.0, high=0.0):
+    """Gate kind 0 none, 1 at least, 2 between; an unused limit is zero bytes."""
+    return struct.pack("<B3d", kind, low, high, raw)
+
+
+def bag(seal_body, *cases):
+    bodies = [seal_body, *cases]
+    at = 2 + 9 * len(bodies)
+    table = struct.pack("<H", len(bodies))
+    for i, body in enumerate(bodies):
+        table += struct.pack("<BII", 1 if i == 0 else 2, at, len(body))
+        at += len(body)
+    return table + b"".join(bodies)
+
+
+def samples():
+    """The name of each sample, its bytes, and the lines that it must print."""
+    accepted = case("example", vpub_old=10000, new=(10000, 0))
+    yield "example", bag(seal(0, 100.0), accepted, accepted), [
+        "seal 0 0",
+        "case 0 0",
+        "case 8 1",  # its first nullifier stands in the table since the case before
+        "ledger spent 2 leaves 2 pool 10000",
+    ]
+
+    yield "refused-seal", bag(seal(2, 51.0, 40.0, 50.0), accepted), [
+        "seal 23 0",  # 51 is not between 40 and 50
+    ]
+
+    yield "broken-layout", bag(seal(0, 100.0), accepted) + b"\x00", [
+        "bag 20 0",  # the last body ends one byte before the bag does
+    ]
+
+    most = case("most", vpub_old=MAX_MONEY, new=(MAX_MONEY - 1, 1))
+    two_sided = case("two-sided", vpub_old=7, vpub_new=7)
+    elsewhere = case("elsewhere", anchor=secret("another root"))
+    spends_again = case("spends again", old=[old_note("unspent"), old_note("most old 2")])
+    from_nowhere = case("from nowhere", old=[old_note("valued", 5), old_note("empty")], new=(5, 0))
+    claims_wrong = with_byte_changed(case("claims wrong", vpub_old=1, new=(1, 0)), 112 + 32)
+    seven = [b"", two_sided, elsewhere, most, spends_again, from_nowhere, claims_wrong]
+    yield "refusals", bag(seal(1, 51.0, 51.0), *seven), [
+        "seal 0 0",  # the limit itself passes
+        "case 1 0",  # a case of no bytes
+        "case 4 0",  # both public values are 7
+        "case 6 0",  # its anchor is not the empty root, which is all that a fresh roll has
+        "case 0 0",  # all the money there will ever be
+        "case 8 2",  # its second nullifier is that of the accepted case
+        "case 10 1",  # its first old note has a value of 5, and no path from it to the empty root
+        "case 16 2",  # a bit of its second commitment is changed
+        f"ledger spent 2 leaves 2 pool {MAX_MONEY}",
+    ]
+
+
+def main():
+    check_compression()
+    for name, data, lines in samples():
+        text = "".join(line + "\n" for line in lines)
+        (HERE / f"{name}.bag").write_bytes(data)
+        (HERE / f"{name}.txt").write_text(text)
+        if name == "example":
+            (PROGRAM / "stdin").write_bytes(data)
+            (PROGRAM / "stdout").write_text(text)
+
+
+if __name__ == "__main__":
+    main()

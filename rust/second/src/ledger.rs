@@ -1,0 +1,179 @@
+//! The ledger: the nullifier table, the anchor roll, the tree, the counts
+//! and the pool.
+
+use crate::answer::Answer;
+use crate::bytes::Bytes32;
+use crate::case::{Case, MAX_MONEY};
+use crate::tree::{empty_root, Record, Tree, DEPTH};
+
+/// The bytes of a table row or a roll row.
+pub const ROW_BYTES: usize = 32;
+
+/// The most nullifiers that a ledger has room for.
+pub const MAX_SPENT: usize = 2_048;
+
+/// The most anchors that a ledger has room for.
+pub const MAX_ANCHORS: usize = 1_024;
+
+/// A ledger with the buffers that were lent to it. Every field may hold
+/// anything at all: a ledger from elsewhere may be damaged.
+#[derive(Clone, Debug, PartialEq, Eq)]
+pub struct Ledger {
+    /// The table's bytes, spare ones included.
+    pub table: Vec<u8>,
+    /// The roll's bytes, spare ones included.
+    pub roll: Vec<u8>,
+    /// Nullifiers, that is, used table rows.
+    pub spent: u64,
+    /// Anchors, that is, used roll rows.
+    pub anchors: u64,
+    /// What has gone in, less what has come out.
+    pub pool: i64,
+    /// The commitment tree.
+    pub tree: Tree,
+}
+
+impl Ledger {
+    /// A ledger whose record, counts and pool are all zero.
+    pub fn zeroed(table: Vec<u8>, roll: Vec<u8>) -> Ledger {
+        Ledger {
+            table,
+            roll,
+            spent: 0,
+            anchors: 0,
+            pool: 0,
+            tree: Tree::planted(Record::EMPTY),
+        }
+    }
+
+    /// Opens a fresh ledger on these buffers. Refusal 1 if the roll has no
+    /// row: then the buffers stay and the rest is all zero.
+    pub fn open(table: Vec<u8>, roll: Vec<u8>) -> (Ledger, Answer) {
+        let mut ledger = Ledger::zeroed(table, roll);
+        if ledger.roll_room() == 0 {
+            return (ledger, Answer::new(1, 0));
+        }
+        ledger.tree = Tree::fresh();
+        ledger.add_anchor(&empty_root(DEPTH));
+        (ledger, Answer::PASSED)
+    }
+
+    /// Rows that the table has room for.
+    pub fn table_room(&self) -> u64 {
+        room(&self.table, MAX_SPENT)
+    }
+
+    /// Rows that the roll has room for.
+    pub fn roll_room(&self) -> u64 {
+        room(&self.roll, MAX_ANCHORS)
+    }
+
+    /// Table rows that are free; none if the count is above room.
+    pub fn free_table_rows(&self) -> u64 {
+        self.table_room().saturating_sub(self.spent)
+    }
+
+    /// Roll rows that are free; none if the count is above room.
+    pub fn free_roll_rows(&self) -> u64 {
+        self.roll_room().saturating_sub(self.anchors)
+    }
+
+    /// The used table rows, as far as the table has room for them.
+    pub fn spent_rows(&self) -> Vec<Bytes32> {
+        used_rows(&self.table, self.spent, self.table_room())
+    }
+
+    /// The used roll rows, as far as the roll has room for them.
+    pub fn anchor_rows(&self) -> Vec<Bytes32> {
+        used_rows(&self.roll, self.anchors, self.roll_room())
+    }
+
+    /// Whether this nullifier is in the table.
+    pub fn has_spent(&self, nullifier: &Bytes32) -> bool {
+        self.spent_rows().contains(nullifier)
+    }
+
+    /// Whether this anchor is on the roll.
+    pub fn has_anchor(&self, anchor: &Bytes32) -> bool {
+        self.anchor_rows().contains(anchor)
+    }
+
+    /// Whether the ledger is damaged, which is refusal 2.
+    pub fn is_damaged(&self) -> bool {
+        !self.spent.is_multiple_of(2)
+            || self.spent > self.table_room()
+            || !is_strictly_rising(&self.spent_rows())
+            || u64::from(self.tree.count()) != self.spent
+            || self.anchors == 0
+            || self.anchors > self.roll_room()
+            || self.is_pool_too_far()
+    }
+
+    /// Whether the pool is further from zero than all cases so far could
+    /// have taken it.
+    fn is_pool_too_far(&self) -> bool {
+        let cases = u128::from(self.spent / 2);
+        u128::from(self.pool.unsigned_abs()) > cases * MAX_MONEY.whole()
+    }
+
+    /// Enters a case that nothing refuses.
+    pub fn accept(&mut self, case: &Case) {
+        let mut rows = self.spent_rows();
+        rows.extend(case.nullifiers);
+        rows.sort();
+        write_rows(&mut self.table, &rows);
+        self.spent += 2;
+        for commitment in &case.commitments {
+            self.tree.append(commitment);
+        }
+        self.pool = moved_pool(self.pool, case);
+    }
+
+    /// Closes a block: the current root goes onto the roll.
+    pub fn close_block(&mut self) -> Answer {
+        if self.is_damaged() {
+            return Answer::new(2, 0);
+        }
+        if self.free_roll_rows() == 0 {
+            return Answer::new(3, 0);
+        }
+        self.add_anchor(&self.tree.root());
+        Answer::PASSED
+    }
+
+    /// Writes the next roll row; there must be one.
+    fn add_anchor(&mut self, root: &Bytes32) {
+        let mut rows = self.anchor_rows();
+        rows.push(*root);
+        write_rows(&mut self.roll, &rows);
+        self.anchors += 1;
+    }
+}
+
+/// Whole rows of a buffer, at most the limit.
+fn room(buffer: &[u8], limit: usize) -> u64 {
+    (buffer.len() / ROW_BYTES).min(limit) as u64
+}
+
+/// The first rows of a buffer, as many as are used.
+fn used_rows(buffer: &[u8], used: u64, room: u64) -> Vec<Bytes32> {
+    let (rows, _) = buffer.as_chunks::<ROW_BYTES>();
+    rows[..used.min(room) as usize].to_vec()
+}
+
+/// Writes these rows over the first rows of a buffer; later bytes stay.
+fn write_rows(buffer: &mut [u8], rows: &[Bytes32]) {
+    let bytes = rows.as_flattened();
+    buffer[..bytes.len()].copy_from_slice(bytes);
+}
+
+fn is_strictly_rising(rows: &[Bytes32]) -> bool {
+    rows.windows(2).all(|pair| pair[0] < pair[1])
+}
+
+/// The pool after a case. The public values and the pool of an undamaged
+/// ledger are small enough for the sum to fit.
+fn moved_pool(pool: i64, case: &Case) -> i64 {
+    let moved = i128::from(pool) + i128::from(case.vpub_old.0) - i128::from(case.vpub_new.0);
+    i64::try_from(moved).expect("the pool of an undamaged ledger stays far inside 64 bits")
+}

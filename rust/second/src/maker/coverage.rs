@@ -1,0 +1,63 @@
+//! What a tape reaches: its answers and its purposes, and how often.
+
+use std::collections::BTreeMap;
+use std::fmt;
+
+use crate::answer::Answer;
+
+/// How often each answer and each purpose is on a tape.
+#[derive(Clone, Debug, Default)]
+pub struct Coverage {
+    answers: BTreeMap<(String, Answer), usize>,
+    purposes: BTreeMap<String, usize>,
+}
+
+impl Coverage {
+    /// Counts the lines of a tape and the purposes of its entries.
+    pub fn of(lines: &[String], purposes: impl Iterator<Item = String>) -> Coverage {
+        let mut coverage = Coverage::default();
+        for (kind, answer) in lines.iter().filter_map(|line| answer_of(line)) {
+            let key = (kind.to_owned(), answer);
+            *coverage.answers.entry(key).or_default() += 1;
+        }
+        for purpose in purposes {
+            *coverage.purposes.entry(purpose).or_default() += 1;
+        }
+        coverage
+    }
+
+    /// How often lines of this kind gave this answer.
+    pub fn times(&self, kind: &str, answer: Answer) -> usize {
+        let key = (kind.to_owned(), answer);
+        self.answers.get(&key).copied().unwrap_or(0)
+    }
+
+    /// How often entries were made for this.
+    pub fn times_made_for(&self, purpose: &str) -> usize {
+        self.purposes.get(purpose).copied().unwrap_or(0)
+    }
+}
+
+impl fmt::Display for Coverage {
+    fn fmt(&self, out: &mut fmt::Formatter<'_>) -> fmt::Result {
+        writeln!(out, "line   number  place  times")?;
+        for ((kind, answer), times) in &self.answers {
+            let (number, place) = (answer.number, answer.place);
+            writeln!(out, "{kind:<6} {number:>6}  {place:>5}  {times:>5}")?;
+        }
+        writeln!(out, "\ntimes  made for")?;
+        for (purpose, times) in &self.purposes {
+            writeln!(out, "{times:>5}  {purpose}")?;
+        }
+        Ok(())
+    }
+}
+
+/// The kind and the answer of a line, if it is one that answers.
+pub fn answer_of(line: &str) -> Option<(&str, Answer)> {
+    let mut words = line.split(' ');
+    let kind = words.next()?;
+    let number = words.next()?.parse().ok()?;
+    let place = words.next()?.parse().ok()?;
+    Some((kind, Answer::new(number, place)))
+}

@@ -1,0 +1,427 @@
+//! The tape maker: random shifts from a seed.
+//!
+//! A tape is a run of scenes. Each scene opens or plants a ledger and does
+//! something with it: an ordinary day with notes created and spent, odd
+//! rooms, damage, ledgers from elsewhere, big ledgers, seals. Wherever the
+//! maker knows what the answer has to be, it checks the judge's.
+
+pub mod bends;
+mod coverage;
+pub mod purse;
+mod scenes;
+mod seals;
+pub mod tampers;
+
+use crate::answer::Answer;
+use crate::case::{Case, CASE_BYTES};
+use crate::judge::all_refusals;
+use crate::ledger::Ledger;
+use crate::random::Random;
+use crate::tape::{entry, plant_body, play, Player};
+use crate::wallet::set_nullifiers;
+
+use bends::{Bench, Bend, BENDS};
+pub use coverage::Coverage;
+use purse::Purse;
+use tampers::{Tamper, TAMPERS};
+
+/// How often a bend is tried before it is put off.
+const TRIES: usize = 60;
+
+/// A tape, the lines it must print, and what it reaches.
+pub struct Tape {
+    /// The tape's bytes.
+    pub bytes: Vec<u8>,
+    /// The lines.
+    pub lines: Vec<String>,
+    /// Which answers and which bends are on it, and how often.
+    pub coverage: Coverage,
+}
+
+/// Makes the tape of this seed with this many sound entries. One tape in
+/// four has a broken entry after them.
+pub fn make_tape(seed: u64, entries: usize) -> Tape {
+    let mut maker = Maker::new(seed, entries);
+    maker.play_scenes();
+    maker.finish()
+}
+
+/// One sound entry, and what it was made for.
+struct Made {
+    bytes: Vec<u8>,
+    purpose: Option<String>,
+}
+
+/// A tape in the making.
+struct Maker {
+    random: Random,
+    player: Player,
+    purse: Purse,
+    made: Vec<Made>,
+    wanted: usize,
+    /// Bends that have not been on the tape yet.
+    bends_due: Vec<&'static Bend>,
+    /// Pairs of neighbours in the table of refusals that have not both
+    /// applied to one case yet.
+    pairs_due: Vec<(Answer, Answer)>,
+    /// Tampers that have not been on the tape yet; all of them again once
+    /// they have been.
+    tampers_due: Vec<&'static Tamper>,
+    /// Kinds of seals that have not been on the tape yet; all of them again
+    /// once they have been.
+    seals_due: Vec<seals::Kind>,
+    /// How many long entries may still be made; the first scenes have theirs
+    /// besides.
+    long_left: usize,
+}
+
+impl Maker {
+    fn new(seed: u64, wanted: usize) -> Maker {
+        let mut random = Random::new(seed);
+        let purse = Purse::fresh(&mut random);
+        let mut bends_due: Vec<&Bend> = BENDS.iter().collect();
+        random.shuffle(&mut bends_due);
+        Maker {
+            random,
+            player: Player::new(),
+            purse,
+            made: Vec::new(),
+            wanted,
+            bends_due,
+            pairs_due: neighbours(),
+            tampers_due: Vec::new(),
+            seals_due: Vec::new(),
+            long_left: wanted.saturating_sub(600) / 150,
+        }
+    }
+
+    fn is_done(&self) -> bool {
+        self.made.len() >= self.wanted
+    }
+
+    /// The first entries as wanted, and perhaps a broken one.
+    fn finish(mut self) -> Tape {
+        self.made.truncate(self.wanted);
+        let mut bytes: Vec<u8> = Vec::new();
+        for made in &self.made {
+            bytes.extend(&made.bytes);
+        }
+        if self.random.one_in(4) {
+            bytes.extend(scenes::broken_end(&mut self.random));
+        }
+        let lines = play(&bytes);
+        let purposes = self.made.into_iter().filter_map(|made| made.purpose);
+        let coverage = Coverage::of(&lines, purposes);
+        Tape {
+            bytes,
+            lines,
+            coverage,
+        }
+    }
+
+    /// Plays an entry and puts it on the tape.
+    fn put(&mut self, kind: u8, body: &[u8], purpose: Option<String>) -> Vec<String> {
+        let lines = self.player.play(kind, body).expect("a sound entry");
+        let bytes = entry(kind, body);
+        self.made.push(Made { bytes, purpose });
+        lines
+    }
+
+    /// Puts an entry that answers with a number and a place on the tape.
+    fn ask(&mut self, kind: u8, body: &[u8], purpose: Option<String>) -> Answer {
+        let lines = self.put(kind, body, purpose);
+        let (_, answer) = coverage::answer_of(&lines[0]).expect("an answer");
+        answer
+    }
+
+    /// Puts a case file on the tape, and checks the answer.
+    fn ask_case(&mut self, file: &[u8], expected: Answer, purpose: &str) {
+        let answer = self.ask(b'C', file, Some(purpose.to_owned()));
+        assert_eq!(answer, expected, "a case made for: {purpose}");
+    }
+
+    /// Puts a case on the tape that would get this answer on a ledger that
+    /// is sound and has room, and settles it if it is accepted.
+    fn judge(&mut self, case: &Case, answer: Answer, purpose: &str) {
+        let ledger = &self.player.ledger;
+        if ledger.is_damaged() {
+            self.ask_case(&case.to_bytes(), Answer::new(2, 0), "damaged ledger");
+        } else if ledger.free_table_rows() < 2 {
+            self.ask_case(&case.to_bytes(), Answer::new(3, 0), "full table");
+        } else {
+            self.ask_case(&case.to_bytes(), answer, purpose);
+            if answer.is_pass() {
+                self.purse.settle(case);
+            }
+        }
+    }
+
+    fn has_room(&self) -> bool {
+        let ledger = &self.player.ledger;
+        !ledger.is_damaged() && ledger.free_table_rows() >= 2
+    }
+
+    /// A case that must be accepted.
+    fn good_case(&mut self) {
+        let case = self.purse.good_case(&mut self.random);
+        self.judge(&case, Answer::PASSED, "good case");
+    }
+
+    /// A bent case.
+    fn bent_case(&mut self) {
+        match self.any_bend() {
+            Some((bend, case)) => self.judge(&case, bend.answer, bend.name),
+            None => self.good_case(),
+        }
+    }
+
+    /// A case bent in this way, if it can be.
+    fn case_bent_by(&mut self, bend: &Bend) {
+        if let Some(case) = self.try_bend(bend) {
+            self.judge(&case, bend.answer, bend.name);
+        }
+    }
+
+    /// A case bent in a way that is due. False if there is none, or if none
+    /// can be made here.
+    fn due_case(&mut self) -> bool {
+        if !self.has_room() {
+            return false;
+        }
+        if let Some((bend, case)) = self.take_due_bend() {
+            self.judge(&case, bend.answer, bend.name);
+            return true;
+        }
+        if let Some(pair) = self.take_due_pair() {
+            self.judge_pair(pair);
+            return true;
+        }
+        false
+    }
+
+    /// The first due bend that can be made here.
+    fn take_due_bend(&mut self) -> Option<(&'static Bend, Case)> {
+        for index in 0..self.bends_due.len() {
+            let bend = self.bends_due[index];
+            if let Some(case) = self.try_bend(bend) {
+                self.bends_due.remove(index);
+                return Some((bend, case));
+            }
+        }
+        None
+    }
+
+    fn any_bend(&mut self) -> Option<(&'static Bend, Case)> {
+        let bend = self.random.pick(BENDS);
+        self.try_bend(bend).map(|case| (bend, case))
+    }
+
+    /// Bends good cases until one can be bent.
+    fn try_bend(&mut self, bend: &Bend) -> Option<Case> {
+        (0..TRIES).find_map(|_| {
+            let case = self.purse.good_case(&mut self.random);
+            self.apply(bend, case)
+        })
+    }
+
+    /// None too where a bend that is meant for a later refusal happens to
+    /// make a nullifier that the table has: then 8 is the right answer.
+    fn apply(&mut self, bend: &Bend, case: Case) -> Option<Case> {
+        let was_spent = self.has_spent_of(&case);
+        let mut bench = Bench {
+            random: &mut self.random,
+            purse: &self.purse,
+        };
+        let bent = (bend.apply)(&mut bench, case)?;
+        let is_mishap = bend.answer.number > 8 && !was_spent && self.has_spent_of(&bent);
+        (!is_mishap).then_some(bent)
+    }
+
+    fn has_spent_of(&self, case: &Case) -> bool {
+        let ledger = &self.player.ledger;
+        case.nullifiers.iter().any(|n| ledger.has_spent(n))
+    }
+
+    /// A case that is bent twice, so that two refusals apply.
+    fn pair_case(&mut self) {
+        match self.any_pair() {
+            Some(pair) => self.judge_pair(pair),
+            None => self.good_case(),
+        }
+    }
+
+    fn judge_pair(&mut self, (case, lower, higher): (Case, Answer, Answer)) {
+        self.judge(&case, lower, &format!("pair {lower} before {higher}"));
+    }
+
+    fn take_due_pair(&mut self) -> Option<(Case, Answer, Answer)> {
+        for index in 0..self.pairs_due.len() {
+            let (lower, higher) = self.pairs_due[index];
+            let made = (0..TRIES).find_map(|_| {
+                let mut bends = [self.pick_bend(lower), self.pick_bend(higher)];
+                self.random.shuffle(&mut bends);
+                self.try_pair(bends[0], bends[1])
+            });
+            if made.is_some() {
+                self.pairs_due.remove(index);
+                return made;
+            }
+        }
+        None
+    }
+
+    fn any_pair(&mut self) -> Option<(Case, Answer, Answer)> {
+        (0..TRIES).find_map(|_| {
+            let first = self.random.pick(BENDS);
+            let then = self.random.pick(BENDS);
+            self.try_pair(first, then)
+        })
+    }
+
+    fn pick_bend(&mut self, answer: Answer) -> &'static Bend {
+        let fitting: Vec<&'static Bend> = BENDS.iter().filter(|b| b.answer == answer).collect();
+        fitting[self.random.below(fitting.len())]
+    }
+
+    /// Bends a case twice. Nothing if that undoes one of the bends, or lets
+    /// a still lower refusal apply.
+    fn try_pair(&mut self, first: &Bend, then: &Bend) -> Option<(Case, Answer, Answer)> {
+        let case = self.purse.good_case(&mut self.random);
+        let case = self.apply(first, case)?;
+        let case = self.apply(then, case)?;
+        let lower = first.answer.min(then.answer);
+        let higher = first.answer.max(then.answer);
+        let refusals = all_refusals(&self.player.ledger, &case);
+        let is_pair = lower < higher
+            && refusals.first() == Some(&lower)
+            && refusals.contains(&higher)
+            && !lower.is_pass();
+        is_pair.then_some((case, lower, higher))
+    }
+
+    /// An accepted case once more, or one with its old notes swapped.
+    fn replayed_case(&mut self) {
+        let mut case = self.purse.good_case(&mut self.random);
+        self.judge(&case, Answer::PASSED, "good case");
+        if self.random.one_in(2) {
+            case.old.swap(0, 1);
+            set_nullifiers(&mut case);
+            self.judge(&case, Answer::new(8, 1), "old notes spent again, swapped");
+        } else {
+            self.judge(&case, Answer::new(8, 1), "case once more");
+        }
+    }
+
+    /// A bent case, and then the good one that it was bent from: the refusal
+    /// must have left nothing behind.
+    fn mended_case(&mut self) {
+        let case = self.purse.good_case(&mut self.random);
+        let bend = self.random.pick(BENDS);
+        if let Some(bent) = self.apply(bend, case.clone()) {
+            if !bend.answer.is_pass() {
+                self.judge(&bent, bend.answer, bend.name);
+                self.judge(&case, Answer::PASSED, "good case after its bent form");
+            }
+        }
+    }
+
+    /// A case of a wrong length.
+    fn wrong_length(&mut self) {
+        let lengths = [0, 1, CASE_BYTES - 1, CASE_BYTES + 1];
+        let others = [2, 1_802, 4_106, CASE_BYTES + 2, 2 * CASE_BYTES];
+        let length = if self.random.one_in(3) {
+            *self.random.pick(&others)
+        } else {
+            *self.random.pick(&lengths)
+        };
+        self.case_of_length(length);
+    }
+
+    /// A good case cut, or followed by zero bytes.
+    fn case_of_length(&mut self, length: usize) {
+        let mut file = self.purse.good_case(&mut self.random).to_bytes();
+        file.resize(length, 0);
+        let purpose = format!("case of {length} bytes");
+        self.ask_case(&file, Answer::new(1, 0), &purpose);
+    }
+
+    /// Whether one more long entry may be made.
+    fn take_long(&mut self) -> bool {
+        let is_left = self.long_left > 0;
+        self.long_left = self.long_left.saturating_sub(1);
+        is_left
+    }
+
+    /// Closes a block. Where the purse knows every leaf, the new roll row
+    /// must be the root over them.
+    fn close_block(&mut self) {
+        let ledger = &self.player.ledger;
+        let expected = match (ledger.is_damaged(), ledger.free_roll_rows()) {
+            (true, _) => Answer::new(2, 0),
+            (false, 0) => Answer::new(3, 0),
+            _ => Answer::PASSED,
+        };
+        let answer = self.ask(b'B', &[], None);
+        assert_eq!(answer, expected, "closing a block");
+        if answer.is_pass() {
+            let root = self.purse.close_block();
+            let newest = self.player.ledger.anchor_rows().pop();
+            assert!(root.is_none() || root == newest, "the root over all leaves");
+        }
+    }
+
+    /// The next tamper, each one once before any comes again.
+    fn next_tamper(&mut self) -> &'static Tamper {
+        if self.tampers_due.is_empty() {
+            self.tampers_due = TAMPERS.iter().collect();
+            self.random.shuffle(&mut self.tampers_due);
+        }
+        self.tampers_due.pop().expect("there are tampers")
+    }
+
+    fn look_at_ledger(&mut self) {
+        self.put(b'L', &[], None);
+    }
+
+    fn look_at_rows(&mut self) {
+        self.put(b'R', &[], None);
+    }
+
+    fn seal(&mut self) {
+        if self.seals_due.is_empty() {
+            self.seals_due = seals::KINDS.to_vec();
+            self.random.shuffle(&mut self.seals_due);
+        }
+        let kind = self.seals_due.pop().expect("there are kinds of seals");
+        let body = kind(&mut self.random);
+        self.put(b'S', &body, None);
+    }
+
+    /// Opens a fresh ledger with buffers of these lengths.
+    fn open(&mut self, table: usize, roll: usize) {
+        let body = scenes::opening(table, roll);
+        let expected = if roll < 32 { 1 } else { 0 };
+        let answer = self.ask(b'O', &body, None);
+        assert_eq!(answer, Answer::new(expected, 0), "opening");
+        self.purse = Purse::fresh(&mut self.random);
+    }
+
+    /// Plants a ledger; the purse must be set to fit.
+    fn plant(&mut self, ledger: &Ledger, purpose: &str) {
+        let body = plant_body(ledger);
+        self.put(b'P', &body, Some(format!("planted: {purpose}")));
+    }
+}
+
+/// Answers 4 to 16 that stand one after the other in the table. Both public
+/// values cannot be too high without refusal 4.
+fn neighbours() -> Vec<(Answer, Answer)> {
+    let mut answers: Vec<Answer> = BENDS.iter().map(|bend| bend.answer).collect();
+    answers.sort();
+    answers.dedup();
+    answers
+        .windows(2)
+        .map(|pair| (pair[0], pair[1]))
+        .filter(|(lower, higher)| !lower.is_pass() && (lower.number, higher.number) != (5, 5))
+        .collect()
+}

@@ -1,0 +1,727 @@
+//! The scenes that a tape is made of.
+
+use crate::answer::Answer;
+use crate::bytes::Bytes32;
+use crate::case::{Amount, Case, OldNote, Position, CASE_BYTES, MAX_MONEY};
+use crate::ledger::{Ledger, MAX_ANCHORS, MAX_SPENT, ROW_BYTES};
+use crate::random::Random;
+use crate::tape::{entry, plant_body, MAX_BODY_BYTES, MAX_ROLL_BYTES, MAX_TABLE_BYTES};
+use crate::tree::{climb, parent, Record, Tree, DEPTH, FULL};
+use crate::wallet::{balance, idle_note, set_nullifiers, write_case, Note, Plan};
+
+use super::bends::{bend_named, BENDS};
+use super::purse::Purse;
+use super::tampers::{fill_spare_bytes, fill_unused_nodes, most_pool, TAMPERS};
+use super::Maker;
+
+type Scene = fn(&mut Maker);
+
+/// Every tape that is long enough has each of these, in a random order.
+const FIRST: [Scene; 16] = [
+    day,
+    bench,
+    bench,
+    narrow_rooms,
+    damage,
+    damage,
+    damage,
+    spare_rows,
+    anywhere,
+    wrong_lengths,
+    big_table_with_room,
+    big_table_without_room,
+    full_roll,
+    deep_records,
+    order,
+    order,
+];
+
+/// What follows is chosen from these.
+const LATER: [Scene; 11] = [
+    day,
+    day,
+    day,
+    narrow_rooms,
+    damage,
+    spare_rows,
+    elsewhere,
+    anywhere,
+    order,
+    deep_records,
+    something_long,
+];
+
+/// Values of the notes of a ledger from elsewhere.
+const ODD_VALUES: [Amount; 9] = [
+    Amount(u64::MAX),
+    Amount(u64::MAX),
+    Amount(u64::MAX),
+    Amount(1 << 63),
+    Amount(MAX_MONEY.0 + 1),
+    Amount(7_000),
+    Amount(3_000),
+    Amount(1),
+    Amount(0),
+];
+
+/// How many due bends and pairs one scene works off.
+const DUE_AT_ONCE: usize = 60;
+
+/// How many tampers one scene has.
+const TAMPERS_AT_ONCE: usize = TAMPERS.len().div_ceil(3);
+
+impl Maker {
+    /// Plays the first scenes, works off what is still due, and goes on with
+    /// random scenes until there are enough entries.
+    pub(super) fn play_scenes(&mut self) {
+        if self.random.one_in(2) {
+            before_the_first_ledger(self);
+        }
+        let mut first = FIRST;
+        self.random.shuffle(&mut first);
+        for scene in first {
+            self.play_scene(scene);
+        }
+        self.play_scene(elsewhere);
+        for _ in 0..3 {
+            if !self.bends_due.is_empty() {
+                self.play_scene(elsewhere);
+                self.play_scene(bench);
+            }
+        }
+        while !self.is_done() {
+            let scene = *self.random.pick(&LATER);
+            self.play_scene(scene);
+        }
+    }
+
+    /// Plays a scene and a few seals, if there are not enough entries yet.
+    fn play_scene(&mut self, scene: Scene) {
+        if !self.is_done() {
+            scene(self);
+            seals(self);
+        }
+    }
+}
+
+/// A length of this many rows and perhaps some bytes of another.
+fn length_of(random: &mut Random, rows: usize) -> usize {
+    let odd_bytes = if random.one_in(3) {
+        0
+    } else {
+        random.below(ROW_BYTES)
+    };
+    rows * ROW_BYTES + odd_bytes
+}
+
+fn seals(maker: &mut Maker) {
+    for _ in 0..1 + maker.random.below(4) {
+        maker.seal();
+    }
+}
+
+/// The player starts with an all-zero ledger without buffers.
+fn before_the_first_ledger(maker: &mut Maker) {
+    maker.look_at_ledger();
+    maker.look_at_rows();
+    maker.good_case();
+    maker.wrong_length();
+    maker.close_block();
+    maker.look_at_ledger();
+}
+
+/// An ordinary day: cases good and bent, blocks closed, looks taken.
+fn day(maker: &mut Maker) {
+    open_for_a_day(maker);
+    let steps = 20 + maker.random.below(25);
+    for _ in 0..steps {
+        step(maker);
+    }
+    maker.look_at_ledger();
+    maker.look_at_rows();
+}
+
+fn open_for_a_day(maker: &mut Maker) {
+    let (table, roll) = if maker.random.one_in(4) {
+        (MAX_TABLE_BYTES, MAX_ROLL_BYTES)
+    } else {
+        let table_rows = 8 + maker.random.below(30);
+        let roll_rows = 3 + maker.random.below(8);
+        (
+            length_of(&mut maker.random, table_rows),
+            length_of(&mut maker.random, roll_rows),
+        )
+    };
+    maker.open(table, roll);
+}
+
+fn step(maker: &mut Maker) {
+    match maker.random.below(100) {
+        0..=21 => maker.good_case(),
+        22..=54 => maker.bent_case(),
+        55..=64 => maker.pair_case(),
+        65..=68 => maker.mended_case(),
+        69..=71 => maker.replayed_case(),
+        72..=74 => maker.wrong_length(),
+        75..=86 => maker.close_block(),
+        87..=90 => maker.look_at_ledger(),
+        91..=92 => maker.look_at_rows(),
+        93..=96 => maker.seal(),
+        _ => replant(maker),
+    }
+}
+
+/// A day for the bends that are due.
+fn bench(maker: &mut Maker) {
+    let table = length_of(&mut maker.random, 60);
+    let roll = length_of(&mut maker.random, 10);
+    maker.open(table, roll);
+    for cases in [2, 2, 1] {
+        for _ in 0..cases {
+            maker.good_case();
+        }
+        maker.close_block();
+    }
+    maker.good_case();
+    for _ in 0..DUE_AT_ONCE {
+        if !maker.due_case() {
+            break;
+        }
+    }
+    maker.look_at_ledger();
+}
+
+/// Plants the ledger as it is, with random bytes in every unused part.
+fn replant(maker: &mut Maker) {
+    let mut ledger = maker.player.ledger.clone();
+    if ledger.table.len() > 100 * ROW_BYTES && !maker.take_long() {
+        return;
+    }
+    fill_unused_nodes(&mut maker.random, &mut ledger);
+    fill_spare_bytes(&mut maker.random, &mut ledger);
+    maker.plant(&ledger, "own ledger, unused parts filled");
+}
+
+/// Tables and rolls with hardly a row, or none.
+fn narrow_rooms(maker: &mut Maker) {
+    for (table_rows, roll_rows) in [(4, 0), (0, 1), (1, 1), (2, 1), (5, 2), (0, 0)] {
+        let table = length_of(&mut maker.random, table_rows);
+        let roll = length_of(&mut maker.random, roll_rows);
+        maker.open(table, roll);
+        for _ in 0..1 + table_rows / 2 {
+            maker.good_case();
+        }
+        maker.close_block();
+        maker.close_block();
+        maker.case_bent_by(bend_named("both public values, balanced"));
+        maker.look_at_ledger();
+        if maker.random.one_in(2) {
+            maker.look_at_rows();
+        }
+    }
+}
+
+/// A ledger of a few cases and blocks, with room for more.
+fn small_ledger(maker: &mut Maker) {
+    let table = length_of(&mut maker.random, 12);
+    let roll = length_of(&mut maker.random, 6);
+    maker.open(table, roll);
+    maker.good_case();
+    maker.good_case();
+    maker.close_block();
+    maker.good_case();
+    maker.close_block();
+}
+
+/// Some of the tampers on a small ledger; three such scenes have them all.
+fn damage(maker: &mut Maker) {
+    small_ledger(maker);
+    let sound = maker.player.ledger.clone();
+    let purse = maker.purse.clone();
+    for _ in 0..TAMPERS_AT_ONCE {
+        let tamper = maker.next_tamper();
+        let mut ledger = sound.clone();
+        (tamper.apply)(&mut maker.random, &mut ledger);
+        maker.purse = purse.clone();
+        maker.purse.stop_growing();
+        maker.plant(&ledger, tamper.name);
+        let is_damaged = maker.player.ledger.is_damaged();
+        assert_eq!(is_damaged, tamper.damages, "{}", tamper.name);
+        try_planted(maker);
+    }
+}
+
+/// A case, a block or a look at a planted ledger.
+fn try_planted(maker: &mut Maker) {
+    let case = maker.purse.good_case(&mut maker.random);
+    let is_on_roll = maker.player.ledger.has_anchor(&case.anchor);
+    let answer = Answer::new(if is_on_roll { 0 } else { 6 }, 0);
+    maker.judge(&case, answer, "good case");
+    match maker.random.below(8) {
+        0 => maker.look_at_rows(),
+        1 => maker.look_at_ledger(),
+        2 => maker.wrong_length(),
+        3..=5 => maker.close_block(),
+        _ => (),
+    }
+}
+
+/// Rows that only look used: they lie past the counts.
+fn spare_rows(maker: &mut Maker) {
+    small_ledger(maker);
+    let sound = maker.player.ledger.clone();
+    let purse = maker.purse.clone();
+    nullifiers_in_spare_rows(maker, sound.clone());
+    maker.purse = purse;
+    anchor_in_spare_row(maker, sound);
+}
+
+fn nullifiers_in_spare_rows(maker: &mut Maker, mut ledger: Ledger) {
+    let name = "nullifiers in spare rows";
+    let case = maker.purse.good_case(&mut maker.random);
+    let spent = ledger.spent as usize;
+    write_row(&mut ledger.table, spent, &case.nullifiers[0]);
+    write_row(&mut ledger.table, spent + 1, &case.nullifiers[1]);
+    maker.plant(&ledger, name);
+    maker.judge(&case, Answer::PASSED, name);
+    maker.look_at_rows();
+}
+
+fn anchor_in_spare_row(maker: &mut Maker, mut ledger: Ledger) {
+    let name = "anchor in a spare row";
+    let mut case = maker.purse.good_case(&mut maker.random);
+    case.anchor = maker.random.bytes();
+    let anchors = ledger.anchors as usize;
+    write_row(&mut ledger.roll, anchors, &case.anchor);
+    maker.plant(&ledger, name);
+    maker.judge(&case, Answer::new(6, 0), name);
+    maker.close_block();
+    maker.judge(&case, Answer::new(6, 0), name);
+    maker.look_at_rows();
+}
+
+fn write_row(buffer: &mut [u8], row: usize, bytes: &Bytes32) {
+    buffer[row * ROW_BYTES..(row + 1) * ROW_BYTES].copy_from_slice(bytes);
+}
+
+/// A ledger that was never grown here: any record, any rows, notes of any
+/// value in a tree of their own.
+fn elsewhere(maker: &mut Maker) {
+    maker.purse = Purse::from_elsewhere(&mut maker.random, &ODD_VALUES);
+    let mut spent = Vec::new();
+    for _ in 0..1 + maker.random.below(2) {
+        spent.extend(maker.purse.take_spent(&mut maker.random));
+    }
+    let cases = 1 + maker.random.below(4);
+    let rows = rows_with(&mut maker.random, &spent, 2 * cases);
+    let table_rows = 2 * cases + 8 + maker.random.below(20);
+    let table = length_of(&mut maker.random, table_rows);
+    let ledger = ledger_from_elsewhere(maker, &rows, table, 5);
+    maker.plant(&ledger, "ledger from elsewhere");
+    for _ in 0..10 {
+        maker.due_case();
+    }
+    for _ in 0..6 + maker.random.below(8) {
+        step(maker);
+    }
+    maker.look_at_ledger();
+    maker.look_at_rows();
+}
+
+/// Two notes of value at any positions at all, one in each half of a tree.
+struct Twins {
+    anchor: Bytes32,
+    old: [OldNote; 2],
+}
+
+impl Twins {
+    fn random(random: &mut Random) -> Twins {
+        let half = FULL / 2;
+        let places = [0, half - 1, random.below(half as usize) as u32];
+        let mut old = [0, half].map(|start| {
+            let position = Position(start + *random.pick(&places));
+            let value = Amount(1 + random.below(100_000) as u64);
+            let path = std::array::from_fn(|_| random.bytes());
+            Note::random(random, value).at(position, path)
+        });
+        let top = DEPTH - 1;
+        let halves =
+            [0, 1].map(|i| climb(&old[i].commitment(), old[i].position, &old[i].path[..top]));
+        old[0].path[top] = halves[1];
+        old[1].path[top] = halves[0];
+        Twins {
+            anchor: parent(&halves[0], &halves[1]),
+            old,
+        }
+    }
+
+    /// A case that spends one of the two, or both.
+    fn case(&self, random: &mut Random) -> Case {
+        let mut old = self.old.clone();
+        random.shuffle(&mut old);
+        if random.one_in(2) {
+            old[random.below(2)] = idle_note(random);
+        }
+        let plan = Plan {
+            vpub_old: Amount::ZERO,
+            vpub_new: Amount::ZERO,
+            anchor: self.anchor,
+            old,
+            new: [
+                (random.bytes(), Amount::ZERO),
+                (random.bytes(), Amount::ZERO),
+            ],
+        };
+        let mut case = write_case(random, plan);
+        balance(random, &mut case);
+        case
+    }
+}
+
+/// Notes at positions that no ledger could grow to, the last leaf among
+/// them, with random nodes beside them at every level.
+fn anywhere(maker: &mut Maker) {
+    let twins: [Twins; 3] = std::array::from_fn(|_| Twins::random(&mut maker.random));
+    let near_roots = [0, 31].map(|byte| {
+        let mut root = twins[0].anchor;
+        maker.random.flip_bit_of(&mut root[byte]);
+        root
+    });
+    maker.purse = Purse::from_elsewhere(&mut maker.random, &[Amount(1)]);
+    let rows = rows_with(&mut maker.random, &[], 4);
+    let mut ledger = ledger_from_elsewhere(maker, &rows, 12 * ROW_BYTES, 5);
+    let roots = twins.iter().map(|twins| twins.anchor).chain(near_roots);
+    for (row, root) in roots.enumerate() {
+        write_row(&mut ledger.roll, row, &root);
+    }
+    maker.plant(&ledger, "notes at any position");
+    for root in near_roots {
+        spend_by_another_root(maker, &twins[0], root);
+    }
+    for twins in &twins {
+        spend_twins(maker, twins);
+    }
+    maker.look_at_ledger();
+}
+
+/// A case whose anchor is on the roll but is not where its paths lead.
+fn spend_by_another_root(maker: &mut Maker, twins: &Twins, root: Bytes32) {
+    let mut case = twins.case(&mut maker.random);
+    case.anchor = root;
+    let place = if case.old[0].value == Amount::ZERO {
+        2
+    } else {
+        1
+    };
+    maker.judge(&case, Answer::new(10, place), "nearly the paths' root");
+}
+
+/// A case of two notes, first with its paths bent.
+fn spend_twins(maker: &mut Maker, twins: &Twins) {
+    let case = twins.case(&mut maker.random);
+    for name in [
+        "path 1 one bit off",
+        "path 2 one bit off",
+        "position 1 one bit off",
+    ] {
+        let bend = bend_named(name);
+        if let Some(bent) = maker.apply(bend, case.clone()) {
+            maker.judge(&bent, bend.answer, bend.name);
+        }
+    }
+    maker.judge(&case, Answer::PASSED, "notes at any position");
+}
+
+/// Every wrong length that is worth a name.
+fn wrong_lengths(maker: &mut Maker) {
+    let long = *maker
+        .random
+        .pick(&[MAX_BODY_BYTES, 65_536, 65_536 + CASE_BYTES]);
+    for length in [0, 1, CASE_BYTES - 1, CASE_BYTES + 1, long] {
+        maker.case_of_length(length);
+    }
+    maker.look_at_ledger();
+}
+
+/// Rising rows, the given ones among them: sometimes the first, sometimes
+/// the last, sometimes beside rows that differ in the last bit only.
+fn rows_with(random: &mut Random, given: &[Bytes32], count: usize) -> Vec<Bytes32> {
+    let mut rows = given.to_vec();
+    let style = random.below(4);
+    while rows.len() < count {
+        let mut row: Bytes32 = random.bytes();
+        match (given.first(), style) {
+            (Some(near), 0) => {
+                row = *near;
+                row[31] ^= 1 + random.below(255) as u8;
+            }
+            (Some(least), 1) if row < *least => continue,
+            (Some(most), 2) if row > *most => continue,
+            _ => (),
+        }
+        if !rows.contains(&row) {
+            rows.push(row);
+        }
+    }
+    rows.sort();
+    rows
+}
+
+/// A sound ledger with these rows, a random record, and the purse's anchors
+/// among random ones on a roll with room for one more.
+fn ledger_from_elsewhere(
+    maker: &mut Maker,
+    rows: &[Bytes32],
+    table: usize,
+    anchors: usize,
+) -> Ledger {
+    let random = &mut maker.random;
+    let mut roll: Vec<Bytes32> = maker.purse.anchors().iter().map(|a| a.root).collect();
+    while roll.len() < anchors {
+        roll.push(random.bytes());
+    }
+    random.shuffle(&mut roll);
+    let record = Record {
+        count: rows.len() as u32,
+        nodes: std::array::from_fn(|_| random.bytes()),
+    };
+    let roll_length = length_of(random, anchors + 1);
+    let mut ledger = Ledger {
+        table: rows.concat(),
+        roll: roll.concat(),
+        spent: rows.len() as u64,
+        anchors: anchors as u64,
+        pool: 0,
+        tree: Tree::planted(record),
+    };
+    ledger.table.resize(table, 0);
+    ledger.roll.resize(roll_length, 0);
+    fill_spare_bytes(random, &mut ledger);
+    let most = most_pool(&ledger);
+    ledger.pool = *random.pick(&[0, 1, -1, most, -most, most - 1, 1 - most]);
+    ledger
+}
+
+/// One of the scenes with long entries, if the tape may have one more.
+fn something_long(maker: &mut Maker) {
+    let scenes: [Scene; 3] = [big_table_with_room, big_table_without_room, full_roll];
+    if maker.take_long() {
+        maker.random.pick(&scenes)(maker);
+    }
+}
+
+/// 2,046 nullifiers: there is room for one more case.
+fn big_table_with_room(maker: &mut Maker) {
+    big_table(maker, MAX_SPENT - 2);
+}
+
+/// 2,048 nullifiers: there is no room.
+fn big_table_without_room(maker: &mut Maker) {
+    big_table(maker, MAX_SPENT);
+}
+
+fn big_table(maker: &mut Maker, spent: usize) {
+    plant_big_table(maker, spent);
+    maker.bent_case();
+    maker.good_case();
+    maker.look_at_ledger();
+    maker.good_case();
+    maker.bent_case();
+    maker.close_block();
+    maker.look_at_ledger();
+    if maker.random.one_in(3) {
+        maker.look_at_rows();
+    }
+}
+
+fn plant_big_table(maker: &mut Maker, spent: usize) {
+    let values = [Amount(u64::MAX), Amount(1), Amount::ZERO, MAX_MONEY];
+    maker.purse = Purse::from_elsewhere(&mut maker.random, &values);
+    let taken = maker.purse.take_spent(&mut maker.random);
+    let given: Vec<Bytes32> = taken.into_iter().collect();
+    let mut rows = given.clone();
+    rows.extend((given.len()..spent).map(|_| maker.random.bytes::<32>()));
+    rows.sort();
+    let table = length_of(&mut maker.random, MAX_SPENT);
+    let ledger = ledger_from_elsewhere(maker, &rows, table, 3);
+    maker.plant(&ledger, &format!("{spent} nullifiers"));
+}
+
+/// Rolls at and near their greatest size.
+fn full_roll(maker: &mut Maker) {
+    maker.purse = Purse::from_elsewhere(&mut maker.random, &[Amount(5), Amount(6)]);
+    let rows = rows_with(&mut maker.random, &[], 4);
+    let anchors = MAX_ANCHORS - 1;
+    let mut ledger = ledger_from_elsewhere(maker, &rows, 8 * ROW_BYTES, anchors);
+    if maker.random.one_in(2) {
+        ledger.anchors = MAX_ANCHORS as u64;
+    }
+    maker.plant(&ledger, "roll near its most");
+    maker.good_case();
+    maker.close_block();
+    maker.look_at_ledger();
+    maker.close_block();
+    maker.good_case();
+    maker.bent_case();
+    maker.look_at_ledger();
+}
+
+/// Leaf counts at which a record's root may go wrong.
+const DEEP_COUNTS: [u32; 11] = [
+    FULL - 1,
+    FULL,
+    FULL + 1,
+    FULL - 2,
+    FULL / 2,
+    FULL / 2 - 1,
+    u32::MAX,
+    u32::MAX - 1,
+    1 << 31,
+    (1 << 30) + 5,
+    0x1555_5555,
+];
+
+/// Records of very many leaves, which only a look can ask about.
+fn deep_records(maker: &mut Maker) {
+    let mut counts = DEEP_COUNTS;
+    maker.random.shuffle(&mut counts[2..]);
+    for count in &counts[..6] {
+        let ledger = deep_ledger(&mut maker.random, *count);
+        maker.plant(&ledger, &format!("record of {count} leaves"));
+        maker.look_at_ledger();
+    }
+    maker.good_case();
+    maker.close_block();
+    maker.look_at_ledger();
+}
+
+/// A damaged ledger with a record of this many leaves.
+fn deep_ledger(random: &mut Random, count: u32) -> Ledger {
+    let mut ledger = Ledger::zeroed(vec![0; 100], vec![1; 40]);
+    ledger.tree = Tree::planted(Record {
+        count,
+        nodes: std::array::from_fn(|_| random.bytes()),
+    });
+    ledger.anchors = 1;
+    ledger.spent = *random.pick(&[0, u64::from(count), 2]);
+    ledger
+}
+
+/// Two cases in one order and then, from the same ledger, in the other.
+fn order(maker: &mut Maker) {
+    small_ledger(maker);
+    let ledger = maker.player.ledger.clone();
+    let purse = maker.purse.clone();
+    let shares = maker.random.one_in(2);
+    let (one, other) = if shares {
+        sharing_cases(maker)
+    } else {
+        unrelated_cases(maker)
+    };
+    let mut answers = Vec::new();
+    for files in [[&one, &other], [&other, &one]] {
+        maker.plant(&ledger, "ledger for two orders");
+        answers.push(files.map(|file| maker.ask(b'C', file, Some("two orders".to_owned()))));
+        maker.look_at_ledger();
+        maker.look_at_rows();
+    }
+    if shares {
+        let is_spent = |pair: &[Answer; 2]| pair[0].is_pass() && pair[1].number == 8;
+        assert!(
+            answers.iter().all(is_spent),
+            "the second is refused as spent"
+        );
+    } else {
+        assert_eq!(answers[0], [answers[1][1], answers[1][0]], "order matters");
+    }
+    maker.purse = purse;
+    maker.purse.stop_growing();
+}
+
+/// Two files without a common nullifier, good or bent.
+fn unrelated_cases(maker: &mut Maker) -> (Vec<u8>, Vec<u8>) {
+    let one = maker.purse.good_case(&mut maker.random);
+    let mut rest = maker.purse.clone();
+    one.old.iter().for_each(|note| rest.mark_spent(note));
+    let other = rest.good_case(&mut maker.random);
+    let one = sometimes_bent(maker, one);
+    let other = sometimes_bent(maker, other);
+    (one.to_bytes(), other.to_bytes())
+}
+
+fn sometimes_bent(maker: &mut Maker, case: Case) -> Case {
+    if maker.random.one_in(2) {
+        return case;
+    }
+    let bend = maker.random.pick(BENDS);
+    maker.apply(bend, case.clone()).unwrap_or(case)
+}
+
+/// Two files that each pass alone, with one nullifier in common.
+fn sharing_cases(maker: &mut Maker) -> (Vec<u8>, Vec<u8>) {
+    let one = maker.purse.good_case(&mut maker.random);
+    let mut other = one.clone();
+    let kept = maker.random.below(2);
+    other.old[1 - kept] = idle_note(&mut maker.random);
+    if maker.random.one_in(2) {
+        other.old.swap(0, 1);
+    }
+    other.seed = maker.random.bytes();
+    other.vpub_new = Amount::ZERO;
+    set_nullifiers(&mut other);
+    balance(&mut maker.random, &mut other);
+    (one.to_bytes(), other.to_bytes())
+}
+
+/// Bytes that no tape may hold, sometimes with a sound entry after them.
+pub(super) fn broken_end(random: &mut Random) -> Vec<u8> {
+    if random.one_in(4) {
+        return cut_entry(random);
+    }
+    let mut bytes = broken_entry(random);
+    if random.one_in(2) {
+        bytes.extend(entry(b'L', &[]));
+    }
+    bytes
+}
+
+/// The tape ends inside an entry.
+fn cut_entry(random: &mut Random) -> Vec<u8> {
+    let whole = entry(b'C', &[1; CASE_BYTES]);
+    let length = match random.below(3) {
+        0 => 1 + random.below(4),
+        1 => whole.len() - 1,
+        _ => 5 + random.below(CASE_BYTES),
+    };
+    whole[..length].to_vec()
+}
+
+/// An unknown kind, or a length that the kind may not have.
+fn broken_entry(random: &mut Random) -> Vec<u8> {
+    let plant =
+        |table: usize, roll: usize| plant_body(&Ledger::zeroed(vec![0; table], vec![0; roll]));
+    let mut long_plant = plant(64, 64);
+    long_plant.push(0);
+    match random.below(13) {
+        0 => entry(*random.pick(b"XoA\0\xff"), &[]),
+        1 => entry(*random.pick(b"BLR"), &[0]),
+        2 => entry(b'O', &opening(64, 64)[..7]),
+        3 => entry(b'O', &[0; 9]),
+        4 => entry(b'O', &opening(MAX_TABLE_BYTES + 1, 64)),
+        5 => entry(b'O', &opening(64, MAX_ROLL_BYTES + 1)),
+        6 => entry(b'S', &[0; 41][..*random.pick(&[0, 16, 40])]),
+        7 => entry(b'S', &[0; 42]),
+        8 => entry(b'P', &plant(64, 64)[..995 + random.below(128)]),
+        9 => entry(b'P', &long_plant),
+        10 => entry(b'P', &plant(MAX_TABLE_BYTES + 1, 0)),
+        11 => entry(b'P', &plant(0, MAX_ROLL_BYTES + 1)),
+        _ => entry(b'C', &vec![0; MAX_BODY_BYTES + 1]),
+    }
+}
+
+/// The body of an `O` entry.
+pub(super) fn opening(table: usize, roll: usize) -> Vec<u8> {
+    let mut body = (table as u32).to_le_bytes().to_vec();
+    body.extend((roll as u32).to_le_bytes());
+    body
+}

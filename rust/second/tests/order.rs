@@ -1,0 +1,132 @@
+//! Demand 3: the order of opening must not matter.
+
+mod common;
+
+use common::Shift;
+use second::answer::Answer;
+use second::case::{Amount, Case};
+use second::judge::judge;
+use second::ledger::Ledger;
+use second::maker::bends::BENDS;
+use second::wallet::{balance, idle_note, set_nullifiers};
+
+/// Judges two files one after the other, on a copy.
+fn judge_both(ledger: &Ledger, files: [&[u8]; 2]) -> (Ledger, [Answer; 2]) {
+    let mut ledger = ledger.clone();
+    let answers = files.map(|file| judge(&mut ledger, file));
+    (ledger, answers)
+}
+
+fn judge_alone(ledger: &Ledger, file: &[u8]) -> Answer {
+    judge(&mut ledger.clone(), file)
+}
+
+/// A case good or bent, as a file of a right or, now and then, wrong length.
+fn any_file(shift: &mut Shift) -> Vec<u8> {
+    let case = if shift.random.one_in(2) {
+        shift.good_case()
+    } else {
+        let index = shift.random.below(BENDS.len());
+        let bent = shift.bent_case(&BENDS[index]);
+        bent.unwrap_or_else(|| shift.good_case())
+    };
+    let mut file = case.to_bytes();
+    if shift.random.one_in(20) {
+        file.pop();
+    }
+    file
+}
+
+/// A file of a wrong length has no nullifier.
+fn nullifiers(file: &[u8]) -> Vec<[u8; 32]> {
+    Case::read(file).map_or(Vec::new(), |case| case.nullifiers.to_vec())
+}
+
+fn share_a_nullifier(one: &[u8], other: &[u8]) -> bool {
+    let others = nullifiers(other);
+    nullifiers(one).iter().any(|row| others.contains(row))
+}
+
+/// The ledger must have room for both cases; they share no nullifier.
+fn check_two_orders(ledger: &Ledger, one: &[u8], other: &[u8]) -> bool {
+    assert!(ledger.free_table_rows() >= 4);
+    let alone = [judge_alone(ledger, one), judge_alone(ledger, other)];
+    let (ended, answers) = judge_both(ledger, [one, other]);
+    let (ended_too, answers_too) = judge_both(ledger, [other, one]);
+    assert_eq!(answers, alone);
+    assert_eq!(answers_too, [alone[1], alone[0]]);
+    let both_pass = alone.iter().all(|answer| answer.is_pass());
+    if both_pass {
+        assert_eq!(ended.table, ended_too.table);
+        assert_eq!(ended.spent, ended_too.spent);
+        assert_eq!(ended.roll, ended_too.roll);
+        assert_eq!(ended.anchors, ended_too.anchors);
+        assert_eq!(ended.pool, ended_too.pool);
+        check_trees(&ended, &ended_too);
+    } else {
+        assert_eq!(ended, ended_too);
+    }
+    both_pass
+}
+
+/// The same leaves, but for which pair came first.
+fn check_trees(ended: &Ledger, ended_too: &Ledger) {
+    let leaves = ended.tree.leaves().expect("all leaves");
+    let mut swapped = leaves.to_vec();
+    let pairs = swapped.len() - 4;
+    swapped[pairs..].rotate_left(2);
+    assert_eq!(ended_too.tree.leaves(), Some(&swapped[..]));
+    assert_ne!(leaves, &swapped[..]);
+}
+
+#[test]
+fn two_cases_get_the_same_answers_in_either_order() {
+    let (mut tried, mut passed) = (0, 0);
+    for seed in 0..40 {
+        let mut shift = Shift::busy(seed);
+        for _ in 0..10 {
+            let one = any_file(&mut shift);
+            let other = any_file(&mut shift);
+            if share_a_nullifier(&one, &other) {
+                continue;
+            }
+            tried += 1;
+            passed += usize::from(check_two_orders(&shift.ledger, &one, &other));
+        }
+    }
+    assert!(tried > 250, "only {tried} pairs tried");
+    assert!(passed > 40, "only {passed} pairs passed");
+}
+
+/// Another good case with one of the same old notes.
+fn sharing_case(shift: &mut Shift, case: &Case) -> Case {
+    let mut other = case.clone();
+    other.old[shift.random.below(2)] = idle_note(&mut shift.random);
+    if shift.random.one_in(2) {
+        other.old.swap(0, 1);
+    }
+    other.vpub_new = Amount::ZERO;
+    set_nullifiers(&mut other);
+    assert!(balance(&mut shift.random, &mut other));
+    other
+}
+
+#[test]
+fn of_two_good_cases_with_a_common_nullifier_the_second_is_refused_as_spent() {
+    let mut places = [0; 2];
+    for seed in 0..40 {
+        let mut shift = Shift::busy(seed);
+        let one = shift.good_case();
+        let other = sharing_case(&mut shift, &one);
+        let (one, other) = (one.to_bytes(), other.to_bytes());
+        assert!(share_a_nullifier(&one, &other));
+        for files in [[&one[..], &other[..]], [&other[..], &one[..]]] {
+            assert_eq!(judge_alone(&shift.ledger, files[0]), Answer::PASSED);
+            let (_, answers) = judge_both(&shift.ledger, files);
+            assert_eq!(answers[0], Answer::PASSED);
+            assert_eq!(answers[1].number, 8);
+            places[usize::from(answers[1].place) - 1] += 1;
+        }
+    }
+    assert!(places.iter().all(|times| *times > 5), "{places:?}");
+}

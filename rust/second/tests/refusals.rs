@@ -1,0 +1,242 @@
+//! Every refusal of a case, by number and place, and what acceptance does.
+
+mod common;
+
+use std::collections::BTreeSet;
+
+use common::Shift;
+use second::answer::Answer;
+use second::case::{Amount, Case, CASE_BYTES};
+use second::judge::{all_refusals, judge, RULES};
+use second::ledger::{Ledger, ROW_BYTES};
+use second::maker::bends::{bend_named, Bend, BENDS};
+use second::maker::tampers::TAMPERS;
+use second::tree::Tree;
+
+/// Judges a case, and checks that a refusal changes no byte.
+fn judge_checked(ledger: &mut Ledger, file: &[u8]) -> Answer {
+    let before = ledger.clone();
+    let answer = judge(ledger, file);
+    if !answer.is_pass() {
+        assert_eq!(*ledger, before, "a refusal must leave the ledger alone");
+    }
+    answer
+}
+
+/// Ledgers on which each bend can be made, with cases bent in that way.
+fn bent_cases(bend: &Bend) -> Vec<(Ledger, Case)> {
+    let mut made = Vec::new();
+    for seed in 0..4 {
+        for mut shift in [Shift::busy(seed), Shift::elsewhere(seed)] {
+            for _ in 0..30 {
+                if let Some(case) = shift.bent_case(bend) {
+                    made.push((shift.ledger.clone(), case));
+                }
+            }
+        }
+    }
+    made
+}
+
+#[test]
+fn every_bent_case_gets_the_answer_it_was_bent_for() {
+    for bend in BENDS {
+        let made = bent_cases(bend);
+        assert!(!made.is_empty(), "never made: {}", bend.name);
+        for (mut ledger, case) in made {
+            let answer = judge_checked(&mut ledger, &case.to_bytes());
+            assert_eq!(answer, bend.answer, "{}", bend.name);
+        }
+    }
+}
+
+#[test]
+fn every_refusal_is_reached_by_a_case_with_nothing_else_wrong() {
+    let mut reached = BTreeSet::new();
+    for bend in BENDS {
+        for (ledger, case) in bent_cases(bend) {
+            if let [only] = all_refusals(&ledger, &case)[..] {
+                assert_eq!(only, bend.answer, "{}", bend.name);
+                reached.insert(only);
+            }
+        }
+    }
+    let asked: BTreeSet<Answer> = RULES[2..].iter().map(|rule| rule.answer).collect();
+    assert_eq!(asked.len(), 23);
+    assert_eq!(reached, asked);
+}
+
+#[test]
+fn the_table_has_each_answer_once_and_in_order() {
+    let answers: Vec<Answer> = RULES.iter().map(|rule| rule.answer).collect();
+    assert!(answers.windows(2).all(|pair| pair[0] < pair[1]));
+    assert_eq!(answers.first(), Some(&Answer::new(2, 0)));
+    assert_eq!(answers.last(), Some(&Answer::new(16, 2)));
+    let numbers: BTreeSet<u8> = answers.iter().map(|answer| answer.number).collect();
+    assert_eq!(numbers, (2..=16).collect());
+}
+
+#[test]
+fn another_length_is_refusal_1_before_all_others() {
+    let mut shift = Shift::busy(1);
+    let file = shift.good_case().to_bytes();
+    assert_eq!(file.len(), CASE_BYTES);
+    let mut damaged = Ledger::zeroed(Vec::new(), Vec::new());
+    for length in [0, 1, 4_106, 4_209, 4_211, 8_420, 100_000] {
+        let mut other = file.clone();
+        other.resize(length, 0);
+        for ledger in [&mut shift.ledger, &mut damaged] {
+            assert_eq!(judge_checked(ledger, &other), Answer::new(1, 0));
+        }
+    }
+    assert_eq!(judge_checked(&mut damaged, &file), Answer::new(2, 0));
+    assert_eq!(judge_checked(&mut shift.ledger, &file), Answer::PASSED);
+}
+
+#[test]
+fn damage_is_refusal_2_and_a_near_miss_is_not() {
+    let mut shift = Shift::busy(2);
+    for tamper in TAMPERS {
+        let mut ledger = shift.ledger.clone();
+        (tamper.apply)(&mut shift.random, &mut ledger);
+        assert_eq!(ledger.is_damaged(), tamper.damages, "{}", tamper.name);
+        for _ in 0..4 {
+            let file = shift.good_case().to_bytes();
+            let answer = judge_checked(&mut ledger.clone(), &file);
+            assert_eq!(answer.number == 2, tamper.damages, "{}", tamper.name);
+        }
+        let mut closed = ledger.clone();
+        let answer = closed.close_block();
+        assert_eq!(answer.number == 2, tamper.damages, "{}", tamper.name);
+        assert!(answer.is_pass() || closed == ledger, "{}", tamper.name);
+    }
+}
+
+#[test]
+fn fewer_than_two_free_rows_is_refusal_3() {
+    for (rows, answer) in [(0, 3), (1, 3), (2, 0), (3, 0)] {
+        let mut shift = Shift::fresh(3, rows, 2);
+        let file = shift.good_case().to_bytes();
+        let answered = judge_checked(&mut shift.ledger, &file);
+        assert_eq!(answered, Answer::new(answer, 0), "{rows} rows");
+    }
+}
+
+/// A sound ledger with this many nullifiers in a table of the greatest size.
+fn big_ledger(spent: u64) -> Ledger {
+    let mut ledger = Shift::fresh(4, 2_048, 2).ledger;
+    let rows = (1..=spent).map(|row| {
+        let mut bytes = [0; ROW_BYTES];
+        bytes[..8].copy_from_slice(&(row << 32).to_be_bytes());
+        bytes
+    });
+    let rows: Vec<u8> = rows.flatten().collect();
+    ledger.table[..rows.len()].copy_from_slice(&rows);
+    ledger.spent = spent;
+    let mut record = ledger.tree.record().clone();
+    record.count = spent as u32;
+    ledger.tree = Tree::planted(record);
+    ledger
+}
+
+#[test]
+fn a_ledger_of_2046_nullifiers_has_room_and_one_of_2048_has_none() {
+    let mut shift = Shift::fresh(5, 2, 2);
+    let file = shift.good_case().to_bytes();
+    let mut ledger = big_ledger(2_046);
+    assert!(!ledger.is_damaged());
+    assert_eq!(judge_checked(&mut ledger, &file), Answer::PASSED);
+    assert_eq!(ledger.spent, 2_048);
+    let other = shift.good_case().to_bytes();
+    assert_eq!(judge_checked(&mut ledger, &other), Answer::new(3, 0));
+    let mut full = big_ledger(2_048);
+    assert!(!full.is_damaged());
+    assert_eq!(judge_checked(&mut full, &file), Answer::new(3, 0));
+}
+
+#[test]
+fn room_is_at_most_2048_rows_however_long_the_table() {
+    let mut ledger = big_ledger(2_048);
+    ledger.table.resize(70_000, 0xff);
+    assert_eq!(ledger.table_room(), 2_048);
+    let file = Shift::fresh(5, 2, 2).good_case().to_bytes();
+    assert_eq!(judge_checked(&mut ledger, &file), Answer::new(3, 0));
+    ledger.spent = 2_050;
+    assert!(ledger.is_damaged());
+}
+
+#[test]
+fn acceptance_leaves_what_the_rules_give() {
+    for seed in 0..20 {
+        let mut shift = Shift::busy(seed);
+        let case = shift.good_case();
+        let before = shift.ledger.clone();
+        let file = case.to_bytes();
+        assert_eq!(judge(&mut shift.ledger, &file), Answer::PASSED);
+        check_acceptance(&before, &case, &shift.ledger);
+    }
+}
+
+/// Works out each part of the end state in another way than the judge does.
+fn check_acceptance(before: &Ledger, case: &Case, after: &Ledger) {
+    let mut spent: BTreeSet<_> = before.spent_rows().into_iter().collect();
+    spent.extend(case.nullifiers);
+    assert_eq!(after.spent, before.spent + 2);
+    assert_eq!(after.spent_rows(), Vec::from_iter(spent));
+
+    let used = after.spent as usize * ROW_BYTES;
+    assert_eq!(after.table[used..], before.table[used..]);
+    assert_eq!(after.table.len(), before.table.len());
+    assert_eq!(after.roll, before.roll);
+    assert_eq!(after.anchors, before.anchors);
+
+    let mut leaves = before.tree.leaves().expect("all leaves").to_vec();
+    leaves.extend(case.commitments);
+    assert_eq!(after.tree.leaves(), Some(&leaves[..]));
+    assert_eq!(after.tree.record().root(), after.tree.root());
+    assert_eq!(u64::from(after.tree.count()), after.spent);
+
+    let public = i128::from(case.vpub_old.0) - i128::from(case.vpub_new.0);
+    assert_eq!(i128::from(after.pool), i128::from(before.pool) + public);
+    assert!(!after.is_damaged());
+}
+
+#[test]
+fn the_carried_fields_count_for_nothing() {
+    let mut shift = Shift::busy(6);
+    let case = shift.good_case();
+    let mut other = case.clone();
+    other.ephemeral_key = shift.random.bytes();
+    other.proof = shift.random.bytes();
+    other.ciphertexts = [shift.random.bytes(), shift.random.bytes()];
+    assert_ne!(case.to_bytes(), other.to_bytes());
+    let mut ledger = shift.ledger.clone();
+    let mut other_ledger = shift.ledger.clone();
+    assert!(judge(&mut ledger, &case.to_bytes()).is_pass());
+    assert!(judge(&mut other_ledger, &other.to_bytes()).is_pass());
+    assert_eq!(ledger, other_ledger);
+}
+
+#[test]
+fn a_fresh_nullifier_is_not_kept_when_the_other_is_spent() {
+    let mut shift = Shift::busy(7);
+    let bend = bend_named("spent note in place 2");
+    let case = shift.bent_case(bend).expect("a spent note");
+    let answer = judge_checked(&mut shift.ledger, &case.to_bytes());
+    assert_eq!(answer, Answer::new(8, 2));
+    assert!(!shift.ledger.has_spent(&case.nullifiers[0]));
+}
+
+#[test]
+fn a_pool_below_zero_is_accepted() {
+    let mut shift = Shift::elsewhere(8);
+    let bend = bend_named("vpub_new at its most");
+    let case = (0..50)
+        .find_map(|_| shift.bent_case(bend))
+        .expect("notes of that value");
+    assert_eq!(case.vpub_old, Amount::ZERO);
+    let answer = judge(&mut shift.ledger, &case.to_bytes());
+    assert_eq!(answer, Answer::PASSED);
+    assert_eq!(shift.ledger.pool, -2_100_000_000_000_000);
+    assert!(!shift.ledger.is_damaged());
+}

@@ -21,7 +21,10 @@ fn each_sample_prints_its_lines() {
     for path in bags {
         let bag = fs::read(&path).expect("a bag");
         let expected = fs::read_to_string(path.with_extension("txt")).expect("its lines");
-        let printed: String = judge_bag(&bag).iter().map(|line| format!("{line}\n")).collect();
+        let printed: String = judge_bag(&bag)
+            .iter()
+            .map(|line| format!("{line}\n"))
+            .collect();
         assert_eq!(printed, expected, "{}", path.display());
     }
 }

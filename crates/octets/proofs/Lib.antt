@@ -1,4 +1,5 @@
 pub mod Filling
+pub mod Joining
 pub mod NumberLaws
 pub mod PartLaws
 pub mod RowLaws

@@ -4,7 +4,7 @@ use mathlib.Core.List.{[]}
 use Prim.Native.Nat.{_+_}
 use native.Mathlib.Omega.{arith}
 use lib.ListN.{length}
-use Rattle.sprout.proofs.Joining.{four-parts}
+use Rattle.octets.proofs.Joining.{start, next, done}
 use borrow.Author.Needs.{needs}
 use Rattle.sprout.proofs.bound_bytes.Statement.{statement}
 use Rattle.sprout.proofs.bound_bytes.Tie as tie
@@ -21,8 +21,10 @@ returns c =
     let h2 : length (a .nullifier1 .now) ≡ 32 = c2 .before .copy-in-arg2 .given .0 in
     let h3 : length (a .nullifier2 .now) ≡ 32 = c3 .before .copy-in-arg3 .given .0 in
     let h4 : length (a .key .now) ≡ 32 = c4 .before .copy-in-arg4 .given .0 in
-    four-parts [] (a .seed .now) (a .nullifier1 .now) (a .nullifier2 .now) (a .key .now) 0 32 64 96 128 refl (omega arith) (omega arith) (omega arith) (omega arith)
-    _ _ _ _ (c1 .copy-in .ensures .1) (c2 .copy-in2 .ensures .1) (c3 .copy-in3 .ensures .1) (c4 .copy-in4 .ensures .1)
+    let l1 = next (a .seed .now) _ 32 96 (omega arith) (omega arith) (c1 .copy-in .ensures .1) (start _ 128 refl) in
+    let l2 = next (a .nullifier1 .now) _ 64 64 (omega arith) (omega arith) (c2 .copy-in2 .ensures .1) l1 in
+    let l3 = next (a .nullifier2 .now) _ 96 32 (omega arith) (omega arith) (c3 .copy-in3 .ensures .1) l2 in
+    done (next (a .key .now) _ 128 0 (omega arith) (omega arith) (c4 .copy-in4 .ensures .1) l3)
 
 pub bound-bytes-spec : {M : Type 1} → statement M
 bound-bytes-spec =

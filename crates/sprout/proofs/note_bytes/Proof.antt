@@ -5,7 +5,8 @@ use mathlib.Core.List.{List, [], _∷_, _++_}
 use Prim.Native.Nat.{ℕ, _+_}
 use native.Mathlib.Omega.{arith}
 use lib.ListN.{length}
-use Rattle.sprout.proofs.Joining.{four-parts}
+use Rattle.octets.specs.Parts.{zeros}
+use Rattle.octets.proofs.Joining.{Laid, next, done}
 use borrow.Author.Needs.{needs}
 use Rattle.sprout.proofs.note_bytes.Statement.{statement}
 use Rattle.sprout.proofs.note_bytes.Tie as tie
@@ -23,8 +24,11 @@ returns c =
     let hv : length (value .le-bytes64 .result) ≡ 8 = ap length (value .le-bytes64 .ensures) ∙ little-bytes-length 8 (a .value .0) in
     let hs : length (a .rho .now) ≡ 32 = c3 .before .copy-in-arg2 .given .0 in
     let hr : length (a .r .now) ≡ 32 = c4 .before .copy-in-arg3 .given .0 in
-    four-parts (0xb0 ∷ []) (a .address .now) (value .le-bytes64 .result) (a .rho .now) (a .r .now) 1 33 41 73 104 refl (omega arith) (omega arith) (omega arith) (omega arith)
-    _ _ _ _ (c1 .copy-in .ensures .1) (c2 .copy-in2 .ensures .1) (c3 .copy-in3 .ensures .1) (c4 .copy-in4 .ensures .1)
+    let l0 : Laid 1 104 (0xb0 ∷ []) _ = record { behind = zeros 104; made = refl; long = refl; left = refl } in
+    let l1 = next (a .address .now) _ 33 72 (omega arith) (omega arith) (c1 .copy-in .ensures .1) l0 in
+    let l2 = next (value .le-bytes64 .result) _ 41 64 (omega arith) (omega arith) (c2 .copy-in2 .ensures .1) l1 in
+    let l3 = next (a .rho .now) _ 73 32 (omega arith) (omega arith) (c3 .copy-in3 .ensures .1) l2 in
+    done (next (a .r .now) _ 105 0 (omega arith) (omega arith) (c4 .copy-in4 .ensures .1) l3)
     ∙ ap (λ (v : List ℕ). (0xb0 ∷ []) ++ a .address .now ++ v ++ a .rho .now ++ a .r .now) (value .le-bytes64 .ensures)
 
 pub note-bytes-spec : {M : Type 1} → statement M

@@ -210,3 +210,12 @@ pub fn copy_in(dst: &mut [u8], at: usize, src: &[u8]) -> bool
     }
     true
 }
+
+// Fills dst with the bytes of src from index at on, and with zeros where src has ended.
+pub fn fill(dst: &mut [u8], src: &[u8], at: usize)
+    ensures { λ _. ⌜ now (dst .exit) ≡ field at (length (now (dst .entry))) (now (src .entry)) ⌝ }
+{
+    for i in 0..dst.len() {
+        dst[i] = byte_from(src, at, i);
+    }
+}

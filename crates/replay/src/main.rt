@@ -6,10 +6,10 @@ ghost use mathlib.Core.Bool.{false, cond};
 ghost use Prim.Native.Nat.{_≤_, _/_, min};
 ghost use lib.ListN.{length};
 ghost use lib.Ieee.{binary64, isNan, toBits};
-ghost use Rattle.octets.specs.Parts.{zeros, field};
+ghost use Rattle.octets.specs.Parts.{zeros};
 ghost use Rattle.refusals.specs.Table.{first};
 ghost use Rattle.ledger.specs.Ledgers.{startOf, openTable, openedOf, rollAfterOpen};
-ghost use Rattle.replay.specs.Tape.{signedOf, plantedOf, lengthOf, Within};
+ghost use Rattle.replay.specs.Tape.{lengthOf, Within};
 use ledger::Answered;
 use ledger::Ledger;
 use ledger::Pool;
@@ -44,31 +44,11 @@ fn wide8(x: u8) -> u64 {
     x as u64
 }
 
-// The signed number of 64 bits.
-fn signed(x: u64) -> i64
-    ensures { λ r. ⌜ r ≡ signedOf x ⌝ }
-{
-    if x < 0x8000_0000_0000_0000 {
-        x as i64
-    } else {
-        -1 - ((0xffff_ffff_ffff_ffff - x) as i64)
-    }
-}
-
 fn clear(bytes: &mut [u8])
     ensures { λ _. ⌜ now (bytes .exit) ≡ zeros (length (now (bytes .entry))) ⌝ }
 {
     for i in 0..bytes.len() {
         bytes[i] = 0;
-    }
-}
-
-// Fills a buffer with the bytes of body from index at on.
-fn fill(bytes: &mut [u8], body: &[u8], at: usize)
-    ensures { λ _. ⌜ now (bytes .exit) ≡ field at (length (now (bytes .entry))) (now (body .entry)) ⌝ }
-{
-    for i in 0..bytes.len() {
-        bytes[i] = octets::byte_from(body, at, i);
     }
 }
 
@@ -100,24 +80,6 @@ fn opened(table: &mut [u8], roll: &mut [u8]) -> Answered
     clear(table);
     clear(roll);
     ledger::open(roll)
-}
-
-// The ledger that a planting names, whether it can be or not.
-fn planted(body: &[u8]) -> Ledger
-    ensures { λ r. ⌜ r ≡ plantedOf (now (body .entry)) ⌝ }
-{
-    let mut nodes = [0u8; 960];
-    fill(&mut nodes, body, 28);
-    let tree = Tree {
-        leaves: octets::le32(body, 24),
-        nodes,
-    };
-    Ledger {
-        nullifiers: octets::le64(body, 0) as usize,
-        anchors: octets::le64(body, 8) as usize,
-        tree,
-        pool: Pool(signed(octets::le64(body, 16))),
-    }
 }
 
 // The bits of a pull that passed, which is no NaN: a NaN's bits cannot be read.
@@ -242,10 +204,10 @@ fn run_plant(body: &[u8], table: &mut [u8], roll: &mut [u8]) -> State
     if roll.len() < r {
         return broken();
     }
-    fill(&mut table[0..t], body, 996);
-    fill(&mut roll[0..r], body, 996 + t);
+    octets::fill(&mut table[0..t], body, 996);
+    octets::fill(&mut roll[0..r], body, 996 + t);
     print_line(b"plant ", Answer::accepted());
-    let ledger = planted(body);
+    let ledger = ledgerbytes::read(body);
     State {
         on: true,
         ledger,

@@ -1,0 +1,83 @@
+-- What was written is read back: a ledger kept as bytes between two calls is the same ledger.
+-- Assumes nothing.
+use Prim.Native.Nat.{ℕ, _+_, _-_, _≤_, _<_, _^_}
+use mathlib.Core.Path.{_≡_, refl, sym, ap, _∙_}
+use mathlib.Core.List.{List, _++_}
+use native.Mathlib.Omega.{arith}
+use lib.IntN.{ℤ, pos, negsuc}
+use lib.ListN.{length, length-append}
+use lib.Signed.{mag}
+use borrow.Author.Tests.{lt-ltb, le-ltb}
+use Rattle.octets.specs.Parts.{field}
+use Rattle.octets.specs.Numbers.{little, littleBytes}
+use Rattle.octets.proofs.NumberLaws.{little-bytes, little-bytes-length}
+use Rattle.octets.proofs.PartLaws.{field-left, field-right, field-all}
+use Rattle.ledger.specs.declared.Ledger.{Ledger}
+use Rattle.ledgerbytes.specs.Keeping.{signedOf, bitsOf, ledgerOf, headOf, bytesOf, Fits}
+
+pub signed-bits : (z : ℤ) → mag z < 2 ^ 63 → signedOf (bitsOf z) ≡ z
+unfolding signedOf bitsOf
+signed-bits (pos n) h = rw (lt-ltb n (2 ^ 63) h)
+signed-bits (negsuc n) h =
+    let x = 2 ^ 64 - 1 - n in
+    let e : 2 ^ 64 - 1 - x ≡ n = omega arith in
+    rw (le-ltb x (2 ^ 63) (omega arith), e)
+
+bits-small : (z : ℤ) → mag z < 2 ^ 63 → bitsOf z < 2 ^ 64
+unfolding bitsOf
+bits-small (pos n) h = omega arith
+bits-small (negsuc n) h = omega arith
+
+-- a part behind another
+last : (at n : ℕ) (p s : List ℕ) → length p ≡ at → length s ≡ n → field at n (p ++ s) ≡ s
+last at n p s hp hs = field-right at 0 n p s (omega arith) ∙ ap (λ (k : ℕ). field 0 k s) (sym hs) ∙ field-all s
+
+-- the four numbers of the head, one behind the other
+module _ (a b c d e : List ℕ) (ha : length a ≡ 8) (hb : length b ≡ 8) (hc : length c ≡ 8) (hd : length d ≡ 4) (he : length e ≡ 960) where
+  two : length (a ++ b) ≡ 16
+  two = omega (arith, length-append a b)
+
+  three : length (a ++ b ++ c) ≡ 24
+  three = omega (arith, length-append (a ++ b) c, two)
+
+  four : length (a ++ b ++ c ++ d) ≡ 28
+  four = omega (arith, length-append (a ++ b ++ c) d, three)
+
+  -- whatever lies within the first three, or the first two, is not touched by what follows
+  in-three : (at : ℕ) → at + 8 ≤ 24 → field at 8 (a ++ b ++ c ++ d ++ e) ≡ field at 8 (a ++ b ++ c)
+  in-three at h = field-left at 8 (a ++ b ++ c ++ d) e (omega (arith, four)) ∙ field-left at 8 (a ++ b ++ c) d (omega (arith, three))
+
+  in-two : (at : ℕ) → at + 8 ≤ 16 → field at 8 (a ++ b ++ c ++ d ++ e) ≡ field at 8 (a ++ b)
+  in-two at h = in-three at (omega arith) ∙ field-left at 8 (a ++ b) c (omega (arith, two))
+
+  part-1 : field 0 8 (a ++ b ++ c ++ d ++ e) ≡ a
+  part-1 = in-two 0 (omega arith) ∙ field-left 0 8 a b (omega arith) ∙ ap (λ (k : ℕ). field 0 k a) (sym ha) ∙ field-all a
+
+  part-2 : field 8 8 (a ++ b ++ c ++ d ++ e) ≡ b
+  part-2 = in-two 8 (omega arith) ∙ last 8 8 a b ha hb
+
+  part-3 : field 16 8 (a ++ b ++ c ++ d ++ e) ≡ c
+  part-3 = in-three 16 (omega arith) ∙ last 16 8 (a ++ b) c two hc
+
+  part-4 : field 24 4 (a ++ b ++ c ++ d ++ e) ≡ d
+  part-4 = field-left 24 4 (a ++ b ++ c ++ d) e (omega (arith, four)) ∙ last 24 4 (a ++ b ++ c) d three hd
+
+  part-5 : field 28 960 (a ++ b ++ c ++ d ++ e) ≡ e
+  part-5 = last 28 960 (a ++ b ++ c ++ d) e four he
+
+-- the law
+pub read-written : (l : Ledger) → Fits l → ledgerOf (bytesOf l) ≡ l
+unfolding ledgerOf bytesOf headOf
+read-written l h =
+    let n = littleBytes 8 (l .nullifiers) in
+    let a = littleBytes 8 (l .anchors) in
+    let z = l .pool .0 in
+    let p = littleBytes 8 (bitsOf z) in
+    let v = littleBytes 4 (l .tree .leaves) in
+    let s = l .tree .nodes in
+    let hn = little-bytes-length 8 (l .nullifiers) in
+    let ha = little-bytes-length 8 (l .anchors) in
+    let hp = little-bytes-length 8 (bitsOf z) in
+    let hv = little-bytes-length 4 (l .tree .leaves) in
+    let hs = h .nodes in
+    rw (part-1 n a p v s hn ha hp hv hs, part-2 n a p v s hn ha hp hv hs, part-3 n a p v s hn ha hp hv hs, part-4 n a p v s hn ha hp hv hs, part-5 n a p v s hn ha hp hv hs, little-bytes 8 (l .nullifiers) (h .nullifiers), little-bytes 8 (l .anchors) (h .anchors), little-bytes 8 (bitsOf z) (bits-small z (h .pool)), little-bytes 4 (l .tree .leaves) (h .leaves), signed-bits z (h .pool))

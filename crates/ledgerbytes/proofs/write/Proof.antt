@@ -1,0 +1,49 @@
+use mathlib.Core.Path.{_≡_, refl, sym, ap, _∙_}
+use Prim.Native.Nat.{_+_}
+use native.Mathlib.Omega.{arith}
+use lib.ListN.{length}
+use borrow.Author.Tests.{eq-eqb, ne-eqb}
+use Rattle.octets.proofs.Joining.{start, next, done}
+use Rattle.ledgerbytes.specs.Keeping.{bytesOf, written}
+use borrow.Author.Needs.{needs}
+use Rattle.ledgerbytes.proofs.write.Statement.{statement}
+use Rattle.ledgerbytes.proofs.write.Tie as tie
+
+returns : tie.Need-returns
+unfolding written
+returns c =
+    let b = c .before .before .args .bytes .now in
+    let h = ne-eqb (length b) 988 (c .if1 .taken) in
+    (sym h, sym (rw h))
+
+nodes-long : (c : tie.Start) → length (c .args .ledger .tree .nodes) ≡ 960
+nodes-long c = search needs
+
+returns-2 : tie.Need-returns-2
+unfolding written bytesOf
+returns-2 c =
+    let c2 = c .before .before in
+    let c1 = c2 .before .before .before .before .before in
+    let front = c1 .before .before .before .before .before in
+    let a = front .before .before .before .args in
+    let b = a .bytes .now in
+    let e : length b ≡ 988 = omega arith in
+    let hf : length (front .head .result) ≡ 28 = search needs in
+    let hn : length (a .ledger .tree .nodes) ≡ 960 = nodes-long (front .before .before .before) in
+    let l1 = next (front .head .result) _ 28 960 (omega arith) (omega arith) (c1 .copy-in .ensures .1) (start b 988 e) in (
+      sym (eq-eqb (length b) 988 e),
+      done (next (a .ledger .tree .nodes) _ 988 0 (omega arith) (omega arith) (c2 .copy-in2 .ensures .1) l1) ∙ rw (eq-eqb (length b) 988 e, front .head .ensures),
+    )
+
+pub write-spec : {M : Type 1} → statement M
+write-spec =
+    tie.close
+    (tie.spec
+    returns
+    (λ c κs. search needs)
+    (λ c. search needs)
+    (λ c κs. search needs)
+    (λ c. search needs)
+    (λ c κs. search needs)
+    (λ c. search needs)
+    returns-2)

@@ -1,0 +1,55 @@
+-- A ledger's 988 bytes: nullifier count, anchor count, pool, leaf count, the record's nodes. b is the bytes, l what a ledger keeps beside its table and
+-- its roll.
+-- Assumes nothing.
+use Prim.Native.Nat.{ℕ, _-_, _^_, _<_}
+use mathlib.Core.Path.{_≡_}
+use mathlib.Core.Bool.{Bool, cond}
+use mathlib.Core.List.{List, _++_}
+use lib.Dec.{eqb, ltb}
+use lib.IntN.{ℤ, pos, negsuc}
+use lib.ListN.{length}
+use lib.Signed.{mag}
+use Rattle.octets.specs.Parts.{field}
+use Rattle.octets.specs.Numbers.{little, littleBytes}
+use Rattle.ledger.specs.declared.Ledger.{Ledger}
+
+-- the signed number of 64 bits: from 2 ^ 63 on they count down from minus one
+unfoldable pub signedOf : ℕ → ℤ
+signedOf x = cond (ltb x (2 ^ 63)) (pos x) (negsuc (2 ^ 64 - 1 - x))
+
+-- and the 64 bits of a signed number
+unfoldable pub bitsOf : ℤ → ℕ
+bitsOf (pos n) = n
+bitsOf (negsuc n) = 2 ^ 64 - 1 - n
+
+-- READING: the ledger that some bytes say, whether it can be or not; where they have ended they read as zeros
+unfoldable pub ledgerOf : List ℕ → Ledger
+ledgerOf b =
+    record {
+      nullifiers = little (field 0 8 b);
+      anchors = little (field 8 8 b);
+      tree = record { leaves = little (field 24 4 b); nodes = field 28 960 b };
+      pool = record { 0 = signedOf (little (field 16 8 b)) };
+    }
+
+-- WRITING: what stands before the nodes, and the whole
+unfoldable pub headOf : Ledger → List ℕ
+headOf l = littleBytes 8 (l .nullifiers) ++ littleBytes 8 (l .anchors) ++ littleBytes 8 (bitsOf (l .pool .0)) ++ littleBytes 4 (l .tree .leaves)
+
+unfoldable pub bytesOf : Ledger → List ℕ
+bytesOf l = headOf l ++ l .tree .nodes
+
+-- only into a buffer of just that length
+abbrev pub isWhole : List ℕ → Bool
+isWhole b = eqb (length b) 988
+
+unfoldable pub written : Ledger → List ℕ → List ℕ
+written l b = cond (isWhole b) (bytesOf l) b
+
+-- a ledger of the machine's own numbers, with a record of 960 bytes
+pub record Fits (l : Ledger) : Type 0 where
+  pub nullifiers : l .nullifiers < 2 ^ 64
+  pub anchors : l .anchors < 2 ^ 64
+  pub pool : mag (l .pool .0) < 2 ^ 63
+  pub leaves : l .tree .leaves < 2 ^ 32
+  pub nodes : length (l .tree .nodes) ≡ 960

@@ -1,0 +1,95 @@
+// A ledger as bytes: what it keeps beside its table and its roll, in a buffer of 988 bytes, for
+// callers that have nothing but memory to keep it in. Every 988 bytes are some ledger.
+// Whether it is damaged, and what may be done with it, is left to `ledger`.
+ghost use mathlib.Core.Path.{_≡_};
+ghost use Rattle.octets.specs.Parts.{field};
+ghost use Rattle.ledgerbytes.specs.Keeping.{signedOf, bitsOf, ledgerOf, headOf, isWhole, written};
+use ledger::Ledger;
+use ledger::Pool;
+use tree::Tree;
+
+// The signed number of 64 bits.
+fn signed(x: u64) -> i64
+    ensures { λ r. ⌜ r ≡ signedOf x ⌝ }
+{
+    if x < 0x8000_0000_0000_0000 {
+        x as i64
+    } else {
+        -1 - ((0xffff_ffff_ffff_ffff - x) as i64)
+    }
+}
+
+// The 64 bits of a pool.
+fn bits(pool: Pool) -> u64
+    ensures { λ r. ⌜ r ≡ bitsOf (pool .0) ⌝ }
+{
+    let n = pool.size();
+    if pool.0 < 0 {
+        0xffff_ffff_ffff_ffff - n + 1
+    } else {
+        n
+    }
+}
+
+// The record's nodes: in one copy where the buffer has them all.
+fn nodes_in(bytes: &[u8]) -> [u8; 960]
+    ensures { λ r. ⌜ r ≡ field 28 960 (now (bytes .entry)) ⌝ }
+{
+    let mut nodes = [0u8; 960];
+    if bytes.len() < 988 {
+        octets::fill(&mut nodes, bytes, 28);
+    } else {
+        octets::copy_in(&mut nodes, 0, &bytes[28..988]);
+    }
+    nodes
+}
+
+// The ledger that some bytes say, whether it can be or not. Bytes that are not there read as zeros.
+pub fn read(bytes: &[u8]) -> Ledger
+    ensures { λ r. ⌜ r ≡ ledgerOf (now (bytes .entry)) ⌝ }
+{
+    let nodes = nodes_in(bytes);
+    let tree = Tree {
+        leaves: octets::le32(bytes, 24),
+        nodes,
+    };
+    Ledger {
+        nullifiers: octets::le64(bytes, 0) as usize,
+        anchors: octets::le64(bytes, 8) as usize,
+        tree,
+        pool: Pool(signed(octets::le64(bytes, 16))),
+    }
+}
+
+// What stands before the nodes: the counts, the pool, and the record's own count.
+fn head(ledger: Ledger) -> [u8; 28]
+    ensures { λ r. ⌜ r ≡ headOf ledger ⌝ }
+{
+    let tree = ledger.tree;
+    let nullifiers = octets::le_bytes64(ledger.nullifiers as u64);
+    let anchors = octets::le_bytes64(ledger.anchors as u64);
+    let money = octets::le_bytes64(bits(ledger.pool));
+    let leaves = octets::le_bytes32(tree.leaves);
+    let mut r = [0u8; 28];
+    octets::copy_in(&mut r, 0, &nullifiers);
+    octets::copy_in(&mut r, 8, &anchors);
+    octets::copy_in(&mut r, 16, &money);
+    octets::copy_in(&mut r, 24, &leaves);
+    r
+}
+
+// Writes a ledger where the buffer is as long as one, and answers whether it is.
+pub fn write(bytes: &mut [u8], ledger: Ledger) -> bool
+    ensures { λ r. ⌜ r ≡ isWhole (now (bytes .entry)) ⌝ }
+    ensures { λ _. ⌜ now (bytes .exit) ≡ written ledger (now (bytes .entry)) ⌝ }
+{
+    if bytes.len() != 988 {
+        return false;
+    }
+    let front = head(ledger);
+    let tree = ledger.tree;
+    let nodes = tree.nodes;
+    octets::copy_in(bytes, 0, &front);
+    octets::copy_in(bytes, 28, &nodes);
+    true
+}

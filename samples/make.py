@@ -1,5 +1,5 @@
 #!/usr/bin/env python3
-"""Writes the sample bags, and beside each the lines that the scanner must print of it.
+"""Writes the sample bags, a tray of bags at the edges of the rules, and the lines that they must print.
 
     python3 samples/make.py
 
@@ -8,19 +8,22 @@ Rattle code: SHA-256 and BLAKE2b come from Python's library, and the bare compre
 library offers, is written out from FIPS 180-4 and held against that library at each run. What a
 bag must be answered is stated by hand, from the rules, beside the bag.
 
-The first sample is also the stored run of the program: it goes to crates/scanner/ a second time.
+The first sample is also the stored run of the scanner: it goes to crates/scanner/ a second time. All
+samples and the bags at the edges, one after the other, are the stored run of crates/tray/.
 """
 
 import hashlib
 import struct
-from math import isqrt
+from math import isqrt, nextafter
 from pathlib import Path
 
 HERE = Path(__file__).resolve().parent
-PROGRAM = HERE.parent / "crates" / "scanner"
+SCANNER = HERE.parent / "crates" / "scanner"
+TRAY = HERE.parent / "crates" / "tray"
 
 MAX_MONEY = 2_100_000_000_000_000
 DEPTH = 29
+MAX_BAG = 65_536
 
 
 # ---- SHA-256's compression (FIPS 180-4) ------------------------------------------------------
@@ -190,14 +193,19 @@ def seal(kind, raw, low=0.0, high=0.0):
     return struct.pack("<B3d", kind, low, high, raw)
 
 
+def table(*rows):
+    """A count of rows, and of each its kind, offset and length."""
+    return struct.pack("<H", len(rows)) + b"".join(struct.pack("<BII", *row) for row in rows)
+
+
 def bag(seal_body, *cases):
     bodies = [seal_body, *cases]
     at = 2 + 9 * len(bodies)
-    table = struct.pack("<H", len(bodies))
+    rows = []
     for i, body in enumerate(bodies):
-        table += struct.pack("<BII", 1 if i == 0 else 2, at, len(body))
+        rows.append((1 if i == 0 else 2, at, len(body)))
         at += len(body)
-    return table + b"".join(bodies)
+    return table(*rows) + b"".join(bodies)
 
 
 def samples():
@@ -238,15 +246,106 @@ def samples():
     ]
 
 
+# ---- The tray: each bag behind its length ------------------------------------------------------
+
+BROKEN = ["bag 20 0"]
+EMPTY = "ledger spent 0 leaves 0 pool 0"
+OPEN = seal(0, 100.0)  # no gate: any reading that is a number passes
+
+
+def lengths():
+    """Bags at the ends of what a bag and a case may have. Each has its bytes and its lines."""
+    yield b"", BROKEN  # there is no count to read
+    yield b"\x01", BROKEN  # nor is half of one
+    yield table(), BROKEN  # a count of 0
+    yield bag(OPEN), ["seal 0 0", EMPTY]  # one row: a seal, and no case to judge
+    yield bag(OPEN, *[b"-"] * 7), ["seal 0 0", *["case 1 0"] * 7, EMPTY]  # eight rows are the most
+    yield bag(OPEN, *[b"-"] * 8), BROKEN  # nine rows, all in order but for their number
+    around = len(bag(OPEN, b""))
+    longest = b"-" * (MAX_BAG - around)
+    yield bag(OPEN, longest), ["seal 0 0", "case 1 0", EMPTY]  # 65,536 bytes: a long case is only refused
+    yield bag(OPEN, longest + b"-"), BROKEN  # a byte more: all in order but for the bag's length
+    whole = case("lengths", vpub_old=3, new=(1, 2))
+    yield bag(OPEN, whole[:-1], whole + b"-", whole), [
+        "seal 0 0",
+        "case 1 0",  # 4,209 bytes
+        "case 1 0",  # 4,211 bytes, of which the first 4,210 would pass
+        "case 0 0",
+        "ledger spent 2 leaves 2 pool 3",
+    ]
+
+
+def layouts():
+    """A table of three rows over 60 bytes, in order, and then with one thing wrong each time."""
+    bodies = OPEN + b"abc" + b"xyz"
+    yield table((1, 29, 25), (2, 54, 3), (2, 57, 3)) + bodies, ["seal 0 0", "case 1 0", "case 1 0", EMPTY]
+    yield table((1, 29, 25), (2, 54, 3), (2, 57, 2)) + bodies, BROKEN  # the last body stops a byte short
+    yield table((1, 29, 25), (2, 54, 3), (2, 57, 4)) + bodies, BROKEN  # and here a byte past the end
+    yield table((1, 29, 25), (2, 54, 2), (2, 57, 3)) + bodies, BROKEN  # a gap of a byte between bodies
+    yield table((1, 29, 25), (2, 54, 4), (2, 57, 3)) + bodies, BROKEN  # two bodies that share a byte
+    yield table((1, 29, 25), (2, 57, 3), (2, 54, 3)) + bodies, BROKEN  # bodies in another order than rows
+    yield table((1, 30, 25), (2, 55, 3), (2, 58, 3)) + b"-" + bodies, BROKEN  # a gap after the table
+    yield table((2, 29, 25), (1, 54, 3), (2, 57, 3)) + bodies, BROKEN  # the kinds of two rows exchanged
+    yield table((1, 29, 25), (1, 54, 3), (2, 57, 3)) + bodies, BROKEN  # a second seal
+    yield table((1, 29, 25), (2, 54, 3), (3, 57, 3)) + bodies, BROKEN  # a kind that there is not
+    # The second body would end at 2^32 + 50: only a sum that wraps meets the third row's offset.
+    yield table((1, 29, 25), (2, 54, 2 ** 32 - 4), (2, 50, 10)) + bodies, BROKEN
+    yield table((1, 29, 25), (2, 54, 3), (2, 57, 3))[:-1], BROKEN  # the bag ends inside its table
+    yield b"\x00\x03" + bag(OPEN, b"abc", b"xyz")[2:], BROKEN  # the count with its high byte first: 768
+    yield bag(OPEN[:-1], b"abc"), BROKEN  # a seal of 24 bytes
+    yield bag(OPEN + b"\x00", b"abc"), BROKEN  # and of 26
+
+
+def seals():
+    """What a seal's body can say. The case behind it is empty: it shows whether cases are judged."""
+    nan, infinite = float("nan"), float("inf")
+    passed = ["seal 0 0", "case 1 0", EMPTY]
+    for body, lines in [
+        (seal(3, 45.0, 40.0, 50.0), BROKEN),  # a gate kind that there is not
+        (seal(0, 45.0, low=-0.0), BROKEN),  # none uses no limit, and minus zero is not all zero bytes
+        (seal(1, 45.0, low=40.0, high=50.0), BROKEN),  # at least uses no high limit
+        (seal(2, 45.0, 50.0, 40.0), ["seal 21 0"]),  # low above high
+        (seal(1, nan, low=nan), ["seal 21 0"]),  # the limit is asked before the pull
+        (seal(2, 45.0, 40.0, infinite), ["seal 21 0"]),  # a limit that is not finite
+        (seal(0, nan), ["seal 22 0"]),  # no number, which even no gate refuses
+        (seal(1, infinite, low=0.0), ["seal 22 0"]),  # above the limit, and not finite
+        (seal(2, nan, 40.0, 50.0), ["seal 22 0"]),  # neither below 40 nor above 50: still no pass
+        (seal(2, 40.0, 40.0, 50.0), passed),  # both ends are included
+        (seal(2, 50.0, 40.0, 50.0), passed),
+        (seal(2, nextafter(40.0, 0.0), 40.0, 50.0), ["seal 23 0"]),  # the next number below the low end
+        (seal(2, nextafter(50.0, 99.0), 40.0, 50.0), ["seal 23 0"]),  # and above the high end
+        (seal(1, -0.0, low=0.0), passed),  # minus zero is at least 0
+        (seal(2, -0.0, 0.0, -0.0), passed),  # and 0 is not above minus zero
+        (seal(1, -5e-324, low=0.0), ["seal 23 0"]),  # the number next below zero
+    ]:
+        yield bag(body, b""), lines
+
+
+def tray():
+    """The bytes of the tray and its lines. It ends inside a bag, which ends the run."""
+    bags = [(data, lines) for _, data, lines in samples()]
+    bags += [*lengths(), *layouts(), *seals()]
+    stored = b"".join(struct.pack("<I", len(data)) + data for data, _ in bags)
+    cut = bag(OPEN)
+    stored += struct.pack("<I", len(cut)) + cut[:-1]
+    return stored, [line for _, lines in bags for line in lines] + ["tray 50 0"]
+
+
+def as_text(lines):
+    return "".join(line + "\n" for line in lines)
+
+
 def main():
     check_compression()
     for name, data, lines in samples():
-        text = "".join(line + "\n" for line in lines)
         (HERE / f"{name}.bag").write_bytes(data)
-        (HERE / f"{name}.txt").write_text(text)
+        (HERE / f"{name}.txt").write_text(as_text(lines))
         if name == "example":
-            (PROGRAM / "stdin").write_bytes(data)
-            (PROGRAM / "stdout").write_text(text)
+            (SCANNER / "stdin").write_bytes(data)
+            (SCANNER / "stdout").write_text(as_text(lines))
+    data, lines = tray()
+    (TRAY / "stdin").write_bytes(data)
+    (TRAY / "stdout").write_text(as_text(lines))
 
 
 if __name__ == "__main__":

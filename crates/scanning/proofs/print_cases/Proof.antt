@@ -1,7 +1,7 @@
 use Prim.Native.Nat.{_≤_, _-_}
 use borrow.Author.Needs.{needs}
-use Rattle.scanner.proofs.print_cases.Statement.{statement}
-use Rattle.scanner.proofs.print_cases.Tie as tie
+use Rattle.scanning.proofs.print_cases.Statement.{statement}
+use Rattle.scanning.proofs.print_cases.Tie as tie
 
 abbrev Inv-loop : tie.InvT-loop
 Inv-loop n answers i₀ i = i ≤ 7

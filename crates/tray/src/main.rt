@@ -1,0 +1,75 @@
+// A tray of bags from standard input, one after the other, each behind its length in four bytes. Each is
+// scanned on a fresh ledger of its own and has the lines that the scanner prints of it; how is left to
+// `scanning`. A program has one stored run, and this one's holds as many bags as there are edges to show.
+ghost use Prim.Native.Nat.{_≤_};
+ghost use lib.ListN.{length};
+ghost use Rattle.tray.specs.Tray.{lengthOf};
+use libc::STDIN_FILENO;
+
+// What comes next on the tray: a bag and its length, the end, or no whole bag.
+pub enum Next {
+    Bag(usize),
+    End,
+    Broken,
+}
+
+// Reads the next bag to the start of a buffer as long as the longest. A read that fails counts as the
+// tray's end.
+fn read_next(buffer: &mut [u8]) -> Next
+    ensures { λ r. ⌜ lengthOf r ≤ length (now (buffer .exit)) ⌝ }
+{
+    let mut head = [0u8; 4];
+    let got = io::read_full(STDIN_FILENO, &mut head);
+    if got == 0 {
+        return Next::End;
+    }
+    if got < 4 {
+        return Next::Broken;
+    }
+    let n = octets::le32(&head, 0) as usize;
+    if buffer.len() < n {
+        return Next::Broken;
+    }
+    if io::read_full(STDIN_FILENO, &mut buffer[0..n]) < n {
+        return Next::Broken;
+    }
+    Next::Bag(n)
+}
+
+fn print_broken() {
+    lines::text(b"tray 50 0");
+    lines::end();
+}
+
+// One bag, and whether the run goes on after it.
+fn turn(buffer: &mut [u8]) -> bool {
+    let next = read_next(buffer);
+    match next {
+        Next::Bag(n) => {
+            scanning::print_scan(scanning::scan_fresh(&buffer[0..n]));
+            true
+        }
+        Next::End => false,
+        Next::Broken => {
+            print_broken();
+            false
+        }
+    }
+}
+
+// A proved loop has to end, and nothing says that a tray does: the turns count down from a number that
+// no run uses up.
+fn play(buffer: &mut [u8]) {
+    let mut on = true;
+    let mut turns = u64::MAX;
+    while turns > 0 && on {
+        on = turn(buffer);
+        turns -= 1;
+    }
+}
+
+// A byte more than a bag may have, so that a bag that is too long can be refused by its layout.
+fn main() {
+    let mut buffer = [0u8; 65537];
+    play(&mut buffer);
+}

@@ -256,7 +256,7 @@ OPEN = seal(0, 100.0)  # no gate: any reading that is a number passes
 def lengths():
     """Bags at the ends of what a bag and a case may have. Each has its bytes and its lines."""
     yield b"", BROKEN  # there is no count to read
-    yield b"\x01", BROKEN  # nor is half of one
+    yield b"\x01", BROKEN  # only half a count
     yield table(), BROKEN  # a count of 0
     yield bag(OPEN), ["seal 0 0", EMPTY]  # one row: a seal, and no case to judge
     yield bag(OPEN, *[b"-"] * 7), ["seal 0 0", *["case 1 0"] * 7, EMPTY]  # eight rows are the most
@@ -283,9 +283,13 @@ def layouts():
     yield table((1, 29, 25), (2, 54, 3), (2, 57, 4)) + bodies, BROKEN  # and here a byte past the end
     yield table((1, 29, 25), (2, 54, 2), (2, 57, 3)) + bodies, BROKEN  # a gap of a byte between bodies
     yield table((1, 29, 25), (2, 54, 4), (2, 57, 3)) + bodies, BROKEN  # two bodies that share a byte
+    # The same two with lengths that still add up to the bag's own.
+    yield table((1, 29, 25), (2, 54, 3), (2, 58, 3)) + bodies, BROKEN
+    yield table((1, 29, 25), (2, 54, 3), (2, 56, 3)) + bodies, BROKEN
     yield table((1, 29, 25), (2, 57, 3), (2, 54, 3)) + bodies, BROKEN  # bodies in another order than rows
     yield table((1, 30, 25), (2, 55, 3), (2, 58, 3)) + b"-" + bodies, BROKEN  # a gap after the table
     yield table((2, 29, 25), (1, 54, 3), (2, 57, 3)) + bodies, BROKEN  # the kinds of two rows exchanged
+    yield table((2, 29, 25), (2, 54, 3), (2, 57, 3)) + bodies, BROKEN  # a case in front and no seal
     yield table((1, 29, 25), (1, 54, 3), (2, 57, 3)) + bodies, BROKEN  # a second seal
     yield table((1, 29, 25), (2, 54, 3), (3, 57, 3)) + bodies, BROKEN  # a kind that there is not
     # The second body would end at 2^32 + 50: only a sum that wraps meets the third row's offset.
@@ -307,15 +311,15 @@ def seals():
         (seal(2, 45.0, 50.0, 40.0), ["seal 21 0"]),  # low above high
         (seal(1, nan, low=nan), ["seal 21 0"]),  # the limit is asked before the pull
         (seal(2, 45.0, 40.0, infinite), ["seal 21 0"]),  # a limit that is not finite
-        (seal(0, nan), ["seal 22 0"]),  # no number, which even no gate refuses
+        (seal(0, nan), ["seal 22 0"]),  # no number: refused even where there is no gate
         (seal(1, infinite, low=0.0), ["seal 22 0"]),  # above the limit, and not finite
         (seal(2, nan, 40.0, 50.0), ["seal 22 0"]),  # neither below 40 nor above 50: still no pass
         (seal(2, 40.0, 40.0, 50.0), passed),  # both ends are included
         (seal(2, 50.0, 40.0, 50.0), passed),
         (seal(2, nextafter(40.0, 0.0), 40.0, 50.0), ["seal 23 0"]),  # the next number below the low end
         (seal(2, nextafter(50.0, 99.0), 40.0, 50.0), ["seal 23 0"]),  # and above the high end
-        (seal(1, -0.0, low=0.0), passed),  # minus zero is at least 0
-        (seal(2, -0.0, 0.0, -0.0), passed),  # and 0 is not above minus zero
+        (seal(1, -0.0, low=0.0), passed),  # a reading of minus zero; adding offset 0 makes the pull 0
+        (seal(2, -0.0, 0.0, -0.0), passed),  # and neither that pull nor the low end is above minus zero
         (seal(1, -5e-324, low=0.0), ["seal 23 0"]),  # the number next below zero
     ]:
         yield bag(body, b""), lines

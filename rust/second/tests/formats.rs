@@ -13,9 +13,10 @@ use second::answer::Answer;
 use second::bag::{judge_bag, write_bag, MAX_BAG_BYTES};
 use second::case::{Amount, Case, NewNote, OldNote, Position};
 use second::judge::judge;
-use second::ledger::{MAX_ANCHORS, MAX_SPENT, ROW_BYTES};
+use second::ledger::{Ledger, MAX_ANCHORS, MAX_SPENT, ROW_BYTES};
 use second::random::Random;
 use second::seal::{Gate, Seal};
+use second::tape::plant_body;
 use second::tree::{empty_root, Record, DEPTH};
 use second::wallet::{idle_note, write_case, Plan};
 
@@ -71,13 +72,13 @@ fn paper() -> String {
 }
 
 /// The paper's drawings, in its order.
-fn drawings() -> [Vec<Line>; 7] {
+fn drawings() -> [Vec<Line>; 11] {
     let paper = paper();
     let fenced = paper.split("```\n").skip(1).step_by(2);
     let drawings: Vec<_> = fenced
         .map(|drawing| drawing.lines().map(Line::read).collect())
         .collect();
-    drawings.try_into().expect("seven drawings")
+    drawings.try_into().expect("eleven drawings")
 }
 
 /// What each part's own drawing says.
@@ -89,11 +90,16 @@ struct Formats {
     row: Vec<Line>,
     seal: Vec<Line>,
     record: Vec<Line>,
+    ledger: Vec<Line>,
+    report: Vec<Line>,
+    tally: Vec<Line>,
+    day_row: Vec<Line>,
 }
 
 impl Formats {
     fn read() -> Formats {
-        let [case, old_note, new_note, bag, row, seal, record] = drawings();
+        let [case, old_note, new_note, bag, row, seal, record, ledger, report, tally, day_row] =
+            drawings();
         Formats {
             case,
             old_note,
@@ -102,11 +108,15 @@ impl Formats {
             row,
             seal,
             record,
+            ledger,
+            report,
+            tally,
+            day_row,
         }
     }
 
     /// All but the bag's, whose length is not fixed.
-    fn fixed(&self) -> [&[Line]; 6] {
+    fn fixed(&self) -> [&[Line]; 10] {
         [
             &self.case,
             &self.old_note,
@@ -114,6 +124,10 @@ impl Formats {
             &self.row,
             &self.seal,
             &self.record,
+            &self.ledger,
+            &self.report,
+            &self.tally,
+            &self.day_row,
         ]
     }
 
@@ -170,6 +184,18 @@ impl Formats {
             "leaves" => record.count.to_le_bytes().into(),
             "nodes" => record.nodes.concat(),
             _ => panic!("a record has no {name}"),
+        })
+    }
+
+    fn ledger_bytes(&self, ledger: &Ledger) -> Vec<u8> {
+        let record = ledger.tree.record();
+        filled(&self.ledger, |name| match name {
+            "nullifiers" => ledger.spent.to_le_bytes().into(),
+            "anchors" => ledger.anchors.to_le_bytes().into(),
+            "pool" => ledger.pool.to_le_bytes().into(),
+            "leaves" => record.count.to_le_bytes().into(),
+            "nodes" => record.nodes.concat(),
+            _ => panic!("a ledger has no {name}"),
         })
     }
 
@@ -363,6 +389,7 @@ fn the_words_around_the_drawings_give_the_same_numbers() {
         format!("## The bag: at most {} bytes\n", written(MAX_BAG_BYTES)),
         format!("## The seal: {} bytes\n", end(&formats.seal)),
         format!("## The tree record: {} bytes\n", end(&formats.record)),
+        format!("## The ledger as bytes: {}\n", end(&formats.ledger)),
         format!("Row {DEPTH} holds the full tree's root."),
         format!("Rows of {ROW_BYTES} bytes"),
         format!("the length divided by {ROW_BYTES}"),
@@ -482,4 +509,15 @@ fn a_tree_record_by_the_paper_is_the_one_that_is_written_here() {
         nodes: std::array::from_fn(|_| random.bytes()),
     };
     assert_eq!(formats.record_bytes(&record), record.to_bytes());
+}
+
+#[test]
+fn a_ledger_by_the_paper_is_the_one_that_a_tape_plants() {
+    let formats = Formats::read();
+    let mut ledger = Shift::busy(14).ledger;
+    for pool in [ledger.pool, -1, i64::MIN] {
+        ledger.pool = pool;
+        let bytes = formats.ledger_bytes(&ledger);
+        assert_eq!(bytes, plant_body(&ledger)[..bytes.len()]);
+    }
 }

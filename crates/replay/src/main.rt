@@ -260,6 +260,29 @@ fn run_rows(table: &[u8], roll: &[u8], state: State)
     print_rows(b"anchor ", &roll[0..r], l.anchors);
 }
 
+// A word and the hash of some bytes, so that many bytes are compared by one short line.
+fn print_hash(word: &[u8], bytes: &[u8]) {
+    lines::text(word);
+    let h = sha256::hash(bytes);
+    lines::hex(&h);
+}
+
+// What no answer shows: every lent byte, the spare ones too, and every node of the record, the unused
+// ones too.
+fn run_memory(table: &[u8], roll: &[u8], state: State)
+    requires { ⌜ Within state (now table) (now roll) ⌝ }
+{
+    let t = state.table;
+    let r = state.roll;
+    let l = state.ledger;
+    let tree = l.tree;
+    let nodes = tree.nodes;
+    print_hash(b"memory ", &table[0..t]);
+    print_hash(b" ", &roll[0..r]);
+    print_hash(b" ", &nodes);
+    lines::end();
+}
+
 fn run_seal(body: &[u8])
     requires { ⌜ length (now body) ≡ 41 ⌝ }
 {
@@ -288,6 +311,10 @@ fn run_bare(kind: u8, table: &[u8], roll: &mut [u8], state: State) -> State
     }
     if kind == b'R' {
         run_rows(table, roll, state);
+        return state;
+    }
+    if kind == b'M' {
+        run_memory(table, roll, state);
         return state;
     }
     broken()

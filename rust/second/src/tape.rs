@@ -11,6 +11,7 @@
 //! | `S` | gain (8), offset (8), a seal (25) | judges the seal | `seal N P`, and the pull's bits on a pass |
 //! | `L` | empty | looks at the ledger | `ledger spent S leaves L anchors A pool P root HEX` |
 //! | `R` | empty | looks at the rows | `spent HEX` for each used table row, then `anchor HEX` for each used roll row |
+//! | `M` | empty | looks at the memory | `memory T R N`: the SHA-256 of the whole table, of the whole roll and of the record's 30 nodes, spare bytes and unused nodes included |
 //! | `P` | counts and pool (3 x 8), the tree record, table length (4), roll length (4), both buffers | plants any ledger, damaged ones too | `plant 0 0` |
 //!
 //! Anything else, a wrong length, or an end inside an entry prints
@@ -21,6 +22,7 @@ use crate::bytes::{hex, Reader};
 use crate::judge::judge;
 use crate::ledger::{Ledger, MAX_ANCHORS, MAX_SPENT, ROW_BYTES};
 use crate::seal::{judge_seal, Calibration, Seal};
+use crate::sha256::sha256;
 use crate::tree::{Record, Tree};
 
 /// The longest body of an entry.
@@ -94,6 +96,7 @@ impl Player {
             b'S' => play_seal(body),
             b'L' => empty(body).map(|()| vec![ledger_line(&self.ledger)]),
             b'R' => empty(body).map(|()| row_lines(&self.ledger)),
+            b'M' => empty(body).map(|()| vec![memory_line(&self.ledger)]),
             b'P' => self.plant(body),
             _ => None,
         }
@@ -178,6 +181,15 @@ fn row_lines(ledger: &Ledger) -> Vec<String> {
     let spent = spent.iter().map(|row| format!("spent {}", hex(row)));
     let anchors = anchors.iter().map(|row| format!("anchor {}", hex(row)));
     spent.chain(anchors).collect()
+}
+
+/// What no answer shows: all lent bytes, and all nodes of the record. Hashed,
+/// so that the line stays short.
+fn memory_line(ledger: &Ledger) -> String {
+    let nodes = ledger.tree.record().nodes;
+    let parts = [&ledger.table, &ledger.roll, nodes.as_flattened()];
+    let [table, roll, nodes] = parts.map(|bytes| hex(&sha256(bytes)));
+    format!("memory {table} {roll} {nodes}")
 }
 
 /// The ledger of a `P` entry, or nothing if the lengths are wrong.

@@ -1,12 +1,18 @@
 //! What the tape maker promises of its tapes.
 
+use std::ops::Range;
+
 use second::answer::Answer;
+use second::bytes::Bytes32;
 use second::case::Case;
-use second::judge::{Rule, RULES};
+use second::hashes;
+use second::judge::{first_refusal, Rule, RULES};
+use second::ledger::{Ledger, ROW_BYTES};
 use second::maker::bends::BENDS;
 use second::maker::make_tape;
 use second::maker::tampers::TAMPERS;
-use second::tape::{play, Player};
+use second::tape::{play, read_plant, Player};
+use second::tree::climb;
 
 const SEEDS: [u64; 3] = [1, 2, 0xffff_ffff_ffff_ffff];
 
@@ -121,6 +127,231 @@ fn a_tape_tells_judges_that_drop_or_swap_a_rule() {
             assert_eq!(is_told(&swapped), !is_exempt, "{} first", rule.answer);
         }
     }
+}
+
+/// Whether a rule applies to a judge that sees only these bytes of the fields
+/// that the rule compares.
+type Partly = fn(&Ledger, &Case, Range<usize>) -> bool;
+
+/// Every rule that compares fields of 32 bytes.
+const COMPARING: [(u8, u8, Partly); 17] = [
+    (2, 0, |ledger, _, seen| {
+        seen_partly(ledger, seen).is_damaged()
+    }),
+    (6, 0, |ledger, case, seen| {
+        !has(&ledger.anchor_rows(), &case.anchor, seen)
+    }),
+    (7, 0, |_, case, seen| {
+        has(&case.nullifiers[..1], &case.nullifiers[1], seen)
+    }),
+    (8, 1, |ledger, case, seen| {
+        has(&ledger.spent_rows(), &case.nullifiers[0], seen)
+    }),
+    (8, 2, |ledger, case, seen| {
+        has(&ledger.spent_rows(), &case.nullifiers[1], seen)
+    }),
+    (10, 1, |_, case, seen| path_fails(case, 0, seen)),
+    (10, 2, |_, case, seen| path_fails(case, 1, seen)),
+    (12, 1, |_, case, seen| nullifier_is_wrong(case, 0, seen)),
+    (12, 2, |_, case, seen| nullifier_is_wrong(case, 1, seen)),
+    (13, 1, |_, case, seen| address_is_wrong(case, 0, seen)),
+    (13, 2, |_, case, seen| address_is_wrong(case, 1, seen)),
+    (14, 1, |_, case, seen| tag_is_wrong(case, 0, seen)),
+    (14, 2, |_, case, seen| tag_is_wrong(case, 1, seen)),
+    (15, 1, |_, case, seen| new_rho_is_wrong(case, 0, seen)),
+    (15, 2, |_, case, seen| new_rho_is_wrong(case, 1, seen)),
+    (16, 1, |_, case, seen| commitment_is_wrong(case, 0, seen)),
+    (16, 2, |_, case, seen| commitment_is_wrong(case, 1, seen)),
+];
+
+/// Whether one of these fields is this one, as far as they are seen.
+fn has(fields: &[Bytes32], field: &Bytes32, seen: Range<usize>) -> bool {
+    let is_alike = |other: &Bytes32| other[seen.clone()] == field[seen.clone()];
+    fields.iter().any(is_alike)
+}
+
+/// The ledger with the unseen bytes of its used table rows all alike.
+fn seen_partly(ledger: &Ledger, seen: Range<usize>) -> Ledger {
+    let mut ledger = ledger.clone();
+    let used = ledger.spent_rows().len();
+    for row in ledger.table.chunks_exact_mut(ROW_BYTES).take(used) {
+        row[..seen.start].fill(0);
+        row[seen.end..].fill(0);
+    }
+    ledger
+}
+
+fn path_fails(case: &Case, which: usize, seen: Range<usize>) -> bool {
+    let note = &case.old[which];
+    let root = climb(&note.commitment(), note.position, &note.path);
+    note.value.0 != 0 && !has(&[root], &case.anchor, seen)
+}
+
+fn nullifier_is_wrong(case: &Case, which: usize, seen: Range<usize>) -> bool {
+    let note = &case.old[which];
+    let right = hashes::nullifier(&note.a_sk, &note.rho);
+    !has(&[right], &case.nullifiers[which], seen)
+}
+
+fn address_is_wrong(case: &Case, which: usize, seen: Range<usize>) -> bool {
+    let note = &case.old[which];
+    !has(&[hashes::address(&note.a_sk)], &note.a_pk, seen)
+}
+
+fn tag_is_wrong(case: &Case, which: usize, seen: Range<usize>) -> bool {
+    let right = hashes::tag(which, &case.old[which].a_sk, &case.h_sig());
+    !has(&[right], &case.tags[which], seen)
+}
+
+fn new_rho_is_wrong(case: &Case, which: usize, seen: Range<usize>) -> bool {
+    let right = hashes::new_rho(which, &case.phi, &case.h_sig());
+    !has(&[right], &case.new[which].rho, seen)
+}
+
+fn commitment_is_wrong(case: &Case, which: usize, seen: Range<usize>) -> bool {
+    let right = case.new[which].commitment();
+    !has(&[right], &case.commitments[which], seen)
+}
+
+/// The cases of a right length on a tape, each with the ledger it came to.
+fn judged_cases(tape: &[u8]) -> Vec<(Ledger, Case)> {
+    let mut player = Player::new();
+    let mut judged = Vec::new();
+    for (kind, body) in entries(tape) {
+        if let (b'C', Some(case)) = (kind, Case::read(body)) {
+            judged.push((player.ledger.clone(), case));
+        }
+        if player.play(kind, body).is_none() {
+            break;
+        }
+    }
+    judged
+}
+
+/// Whether a judge that has another test in place of one rule gives another
+/// answer to one of these cases.
+fn is_found(
+    judged: &[(Ledger, Case)],
+    answer: Answer,
+    other: impl Fn(&Ledger, &Case) -> bool,
+) -> bool {
+    judged.iter().any(|(ledger, case)| {
+        let applies = |rule: &&Rule| {
+            if rule.answer == answer {
+                other(ledger, case)
+            } else {
+                (rule.applies)(ledger, case)
+            }
+        };
+        let given = RULES.iter().find(applies).map(|rule| rule.answer);
+        given != first_refusal(ledger, case)
+    })
+}
+
+#[test]
+fn a_tape_finds_judges_that_compare_one_byte_too_few() {
+    for seed in SEEDS {
+        let judged = judged_cases(&make_tape(seed, 600).bytes);
+        for (number, place, partly) in COMPARING {
+            let answer = Answer::new(number, place);
+            let found = |seen: Range<usize>| {
+                is_found(&judged, answer, |ledger, case| {
+                    partly(ledger, case, seen.clone())
+                })
+            };
+            assert!(!found(0..32), "{answer} is as the judge has it");
+            assert!(found(0..31), "seed {seed}: {answer} without the last");
+            assert!(found(1..32), "seed {seed}: {answer} without the first");
+        }
+    }
+}
+
+#[test]
+fn a_tape_finds_judges_that_leave_out_one_of_a_key_s_top_bits() {
+    for seed in SEEDS {
+        let judged = judged_cases(&make_tape(seed, 600).bytes);
+        for left_out in [0x80, 0x40, 0x20, 0x10] {
+            let has_top_bits = |key: &Bytes32| key[0] & (0xf0 ^ left_out) != 0;
+            for which in 0..2 {
+                let misformed = |_: &Ledger, case: &Case| {
+                    let note = &case.old[which];
+                    has_top_bits(&note.a_sk) || !note.position.is_in_tree()
+                };
+                let answer = Answer::new(9, which as u8 + 1);
+                assert!(is_found(&judged, answer, misformed), "{answer} {left_out}");
+            }
+            let misformed = |_: &Ledger, case: &Case| has_top_bits(&case.phi);
+            let answer = Answer::new(9, 3);
+            assert!(is_found(&judged, answer, misformed), "{answer} {left_out}");
+        }
+    }
+}
+
+#[test]
+fn what_is_done_on_a_planted_ledger_is_followed_by_a_look_at_its_memory() {
+    for seed in SEEDS {
+        let tape = make_tape(seed, 600);
+        let mut is_planted = false;
+        let mut is_due = false;
+        for (kind, _) in entries(&tape.bytes) {
+            match kind {
+                b'O' | b'P' => {
+                    assert!(!is_due, "seed {seed}: left without a look");
+                    is_planted = kind == b'P';
+                    is_due = is_planted;
+                }
+                b'C' | b'B' => is_due = is_planted,
+                b'M' => is_due = false,
+                _ => (),
+            }
+        }
+        for purpose in ["memory after an acceptance", "memory after a refusal"] {
+            assert!(tape.coverage.times_made_for(purpose) > 0, "{purpose}");
+        }
+    }
+}
+
+/// The bytes of a buffer past its used rows.
+fn spare(buffer: &[u8], used: u64) -> &[u8] {
+    let rows = used.min((buffer.len() / ROW_BYTES) as u64) as usize;
+    &buffer[rows * ROW_BYTES..]
+}
+
+#[test]
+fn planted_ledgers_have_spare_bytes_that_are_not_zero() {
+    for seed in SEEDS {
+        let tape = make_tape(seed, 600);
+        let mut ragged = 0;
+        for (kind, body) in entries(&tape.bytes) {
+            if kind != b'P' {
+                continue;
+            }
+            let ledger = read_plant(body).expect("a sound entry");
+            for (buffer, used) in [
+                (&ledger.table, ledger.spent),
+                (&ledger.roll, ledger.anchors),
+            ] {
+                let spare = spare(buffer, used);
+                let is_marked = spare.iter().any(|byte| *byte != 0);
+                assert!(is_marked || spare.is_empty(), "seed {seed}");
+                ragged += usize::from(buffer.len() % ROW_BYTES != 0);
+            }
+        }
+        assert!(
+            ragged > 100,
+            "seed {seed}: {ragged} buffers end inside a row"
+        );
+    }
+}
+
+#[test]
+fn the_stored_tape_is_that_of_seed_1() {
+    let stored = concat!(env!("CARGO_MANIFEST_DIR"), "/../../crates/replay/");
+    let tape = make_tape(1, 600);
+    let lines: String = tape.lines.iter().map(|line| format!("{line}\n")).collect();
+    let read = |name: &str| std::fs::read(format!("{stored}{name}")).expect("the stored tape");
+    assert!(read("stdin") == tape.bytes, "make the stored tape anew");
+    assert!(read("stdout") == lines.as_bytes(), "make its lines anew");
 }
 
 #[test]

@@ -6,10 +6,11 @@ use common::Shift;
 use second::bytes::hex;
 use second::ledger::{Ledger, ROW_BYTES};
 use second::seal::{seal_bytes, Gate, Seal};
+use second::sha256::sha256;
 use second::tape::{
     entry, plant_body, play, read_plant, MAX_BODY_BYTES, MAX_ROLL_BYTES, MAX_TABLE_BYTES,
 };
-use second::tree::{empty_root, DEPTH};
+use second::tree::{empty_root, Tree, DEPTH};
 
 const BROKEN: [&str; 1] = ["tape 50 0"];
 
@@ -171,6 +172,46 @@ fn rows_beyond_the_buffers_are_not_printed() {
     assert_eq!(play(&tape), expected);
 }
 
+/// What the memory line of a ledger must be.
+fn memory_line(ledger: &Ledger) -> String {
+    let record = ledger.tree.record().to_bytes();
+    let parts = [&ledger.table[..], &ledger.roll, &record[4..]];
+    let [table, roll, nodes] = parts.map(|bytes| hex(&sha256(bytes)));
+    format!("memory {table} {roll} {nodes}")
+}
+
+#[test]
+fn a_look_at_the_memory_shows_spare_bytes_and_unused_nodes() {
+    let shift = Shift::busy(4);
+    let sound = shift.ledger;
+    let mut spare_table = sound.clone();
+    *spare_table.table.last_mut().expect("a table") ^= 1;
+    let mut spare_roll = sound.clone();
+    *spare_roll.roll.last_mut().expect("a roll") ^= 1;
+    let mut record = sound.tree.record().clone();
+    assert!(!record.is_waiting(29));
+    record.nodes[29][31] ^= 1;
+    let mut unused_node = sound.clone();
+    unused_node.tree = Tree::planted(record);
+    let ledgers = [sound, spare_table, spare_roll, unused_node];
+    let mut lines = ledgers.each_ref().map(|ledger| {
+        let tape = [planting(ledger), entry(b'M', &[])].concat();
+        let line = play(&tape).pop().expect("a line");
+        assert_eq!(line, memory_line(ledger));
+        line
+    });
+    lines.sort();
+    assert!(lines.windows(2).all(|pair| pair[0] != pair[1]));
+}
+
+#[test]
+fn before_the_first_ledger_the_memory_has_only_nodes_of_zero_bytes() {
+    let nothing = hex(&sha256(&[]));
+    let nodes = hex(&sha256(&[0; 960]));
+    let expected = [format!("memory {nothing} {nothing} {nodes}")];
+    assert_eq!(play(&entry(b'M', &[])), expected);
+}
+
 #[test]
 fn the_longest_buffers_hold_2048_and_1024_rows() {
     let mut ledger = Ledger::zeroed(vec![1; MAX_TABLE_BYTES], vec![2; MAX_ROLL_BYTES]);
@@ -198,6 +239,7 @@ fn broken_entries_end_the_run() {
         entry(b'B', &[0]),
         entry(b'L', &[0]),
         entry(b'R', &[0]),
+        entry(b'M', &[0]),
         entry(b'O', &[]),
         entry(b'O', &[0; 7]),
         entry(b'O', &[0; 9]),

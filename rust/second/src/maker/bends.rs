@@ -15,6 +15,7 @@ use crate::wallet::{
     balance, set_commitments, set_new_rhos, set_new_values, set_nullifiers, set_tags, split, Note,
 };
 
+use super::edges::EDGES;
 use super::purse::{Held, Purse};
 
 /// What a bend works with.
@@ -26,6 +27,7 @@ pub struct Bench<'a> {
 }
 
 /// One way to bend a case.
+#[derive(Clone, Copy)]
 pub struct Bend {
     /// What is bent, in a few words.
     pub name: &'static str,
@@ -35,7 +37,8 @@ pub struct Bend {
     pub apply: fn(&mut Bench, Case) -> Option<Case>,
 }
 
-const fn bend(
+/// The bend of this answer and name.
+pub(super) const fn bend(
     number: u8,
     place: u8,
     name: &'static str,
@@ -48,12 +51,29 @@ const fn bend(
     }
 }
 
-/// The first and the last of 32 bytes.
-const FIRST: usize = 0;
-const LAST: usize = 31;
+/// All bends: those of this file, and the edges.
+pub const BENDS: &[Bend] = &joined::<COUNT>();
 
-/// All bends, in the order of their answers.
-pub const BENDS: &[Bend] = &[
+const LISTS: [&[Bend]; 4] = [PLAIN, EDGES[0], EDGES[1], EDGES[2]];
+
+const COUNT: usize = LISTS[0].len() + LISTS[1].len() + LISTS[2].len() + LISTS[3].len();
+
+/// The lists one after the other.
+const fn joined<const N: usize>() -> [Bend; N] {
+    let mut all = [PLAIN[0]; N];
+    let mut rest: &mut [Bend] = &mut all;
+    let mut list = 0;
+    while list < LISTS.len() {
+        let (part, after) = rest.split_at_mut(LISTS[list].len());
+        part.copy_from_slice(LISTS[list]);
+        rest = after;
+        list += 1;
+    }
+    all
+}
+
+/// The bends that are no edges, in the order of their answers.
+const PLAIN: &[Bend] = &[
     bend(0, 0, "no bend", |_, c| Some(c)),
     bend(0, 0, "ephemeral key", ephemeral_key),
     bend(0, 0, "proof", proof),
@@ -108,14 +128,6 @@ pub const BENDS: &[Bend] = &[
     }),
     bend(6, 0, "random anchor", |b, mut c| {
         c.anchor = b.random.bytes();
-        Some(c)
-    }),
-    bend(6, 0, "anchor off in its first byte", |b, mut c| {
-        b.random.flip_bit_of(&mut c.anchor[FIRST]);
-        Some(c)
-    }),
-    bend(6, 0, "anchor off in its last byte", |b, mut c| {
-        b.random.flip_bit_of(&mut c.anchor[LAST]);
         Some(c)
     }),
     bend(6, 0, "root of the open block", open_root),
@@ -221,12 +233,6 @@ pub const BENDS: &[Bend] = &[
     bend(12, 2, "rho of idle note 2 one bit off", |b, c| {
         idle_rho(b, c, 1)
     }),
-    bend(12, 1, "nullifier 1 off in its first byte", |b, c| {
-        nullifier_near(b, c, 0, None, FIRST)
-    }),
-    bend(12, 2, "nullifier 2 off in its last byte", |b, c| {
-        nullifier_near(b, c, 1, None, LAST)
-    }),
     bend(
         12,
         1,
@@ -238,53 +244,11 @@ pub const BENDS: &[Bend] = &[
             Some(c)
         },
     ),
-    bend(
-        12,
-        1,
-        "nullifier 1 off a spent one in its last byte",
-        |b, c| {
-            let spent = pick_held(b.random, &b.purse.spent)?.note.nullifier();
-            nullifier_near(b, c, 0, Some(spent), LAST)
-        },
-    ),
-    bend(
-        12,
-        2,
-        "nullifier 2 off a spent one in its first byte",
-        |b, c| {
-            let spent = pick_held(b.random, &b.purse.spent)?.note.nullifier();
-            nullifier_near(b, c, 1, Some(spent), FIRST)
-        },
-    ),
-    bend(
-        12,
-        2,
-        "nullifier 2 off nullifier 1 in its first byte",
-        |b, c| {
-            let first = c.nullifiers[0];
-            nullifier_near(b, c, 1, Some(first), FIRST)
-        },
-    ),
-    bend(
-        12,
-        2,
-        "nullifier 2 off nullifier 1 in its last byte",
-        |b, c| {
-            let first = c.nullifiers[0];
-            nullifier_near(b, c, 1, Some(first), LAST)
-        },
-    ),
     bend(12, 1, "another key for idle note 1", |b, c| {
         another_key(b, c, 0)
     }),
     bend(12, 2, "another key for idle note 2", |b, c| {
         another_key(b, c, 1)
-    }),
-    bend(13, 1, "address of idle note 1 one bit off", |b, c| {
-        idle_address(b, c, 0)
-    }),
-    bend(13, 2, "address of idle note 2 one bit off", |b, c| {
-        idle_address(b, c, 1)
     }),
     bend(13, 1, "a stranger's note in place 1", |b, c| {
         stranger(b, c, 0)
@@ -292,8 +256,6 @@ pub const BENDS: &[Bend] = &[
     bend(13, 2, "a stranger's note in place 2", |b, c| {
         stranger(b, c, 1)
     }),
-    bend(14, 1, "tag 1 one bit off", |b, c| tag_bit(b, c, 0)),
-    bend(14, 2, "tag 2 one bit off", |b, c| tag_bit(b, c, 1)),
     bend(14, 1, "tag 1 made as tag 2", |_, c| {
         tag_of_other_place(c, 0)
     }),
@@ -324,12 +286,6 @@ pub const BENDS: &[Bend] = &[
             Some(c)
         },
     ),
-    bend(15, 1, "new rho 1 one bit off, committed", |b, c| {
-        new_rho_bit(b, c, 0)
-    }),
-    bend(15, 2, "new rho 2 one bit off, committed", |b, c| {
-        new_rho_bit(b, c, 1)
-    }),
     bend(15, 1, "new rho 1 made as rho 2, committed", |_, c| {
         new_rho_of_other_place(c, 0)
     }),
@@ -339,12 +295,6 @@ pub const BENDS: &[Bend] = &[
     bend(15, 1, "phi's low bits off", |b, mut c| {
         b.random.flip_bit(&mut c.phi[1..]);
         Some(c)
-    }),
-    bend(16, 1, "commitment 1 one bit off", |b, c| {
-        commitment_bit(b, c, 0)
-    }),
-    bend(16, 2, "commitment 2 one bit off", |b, c| {
-        commitment_bit(b, c, 1)
     }),
     bend(16, 1, "commitments swapped", |_, mut c| {
         c.commitments.swap(0, 1);
@@ -405,13 +355,13 @@ fn nothing_of_value(b: &mut Bench, mut case: Case) -> Option<Case> {
 }
 
 /// The old note of this place, if its value is zero.
-fn idle(case: &mut Case, which: usize) -> Option<&mut OldNote> {
+pub(super) fn idle(case: &mut Case, which: usize) -> Option<&mut OldNote> {
     let note = &mut case.old[which];
     (note.value == Amount::ZERO).then_some(note)
 }
 
 /// The old note of this place, if it has value.
-fn valued(case: &mut Case, which: usize) -> Option<&mut OldNote> {
+pub(super) fn valued(case: &mut Case, which: usize) -> Option<&mut OldNote> {
     let note = &mut case.old[which];
     (note.value != Amount::ZERO).then_some(note)
 }
@@ -507,7 +457,8 @@ fn one_note_twice(b: &mut Bench, mut case: Case) -> Option<Case> {
     balance(b.random, &mut case).then_some(case)
 }
 
-fn pick_held<'a>(random: &mut Random, held: &'a [Held]) -> Option<&'a Held> {
+/// One of these notes, if there is any.
+pub(super) fn pick_held<'a>(random: &mut Random, held: &'a [Held]) -> Option<&'a Held> {
     (!held.is_empty()).then(|| random.pick(held))
 }
 
@@ -543,23 +494,6 @@ fn spent_twice(b: &mut Bench, case: Case) -> Option<Case> {
 fn spent_nullifier(b: &mut Bench, mut case: Case, which: usize) -> Option<Case> {
     let held = pick_held(b.random, &b.purse.spent)?;
     case.nullifiers[which] = held.note.nullifier();
-    Some(case)
-}
-
-/// A nullifier that differs from this one, or from its own, in one bit of
-/// one byte. Tags, rho values and commitments are made for it.
-fn nullifier_near(
-    b: &mut Bench,
-    mut case: Case,
-    which: usize,
-    near: Option<Bytes32>,
-    byte: usize,
-) -> Option<Case> {
-    let nullifier = &mut case.nullifiers[which];
-    *nullifier = near.unwrap_or(*nullifier);
-    b.random.flip_bit_of(&mut nullifier[byte]);
-    set_tags(&mut case);
-    set_new_rhos(&mut case);
     Some(case)
 }
 
@@ -660,22 +594,12 @@ fn new_total(b: &mut Bench, mut case: Case, total: u128) -> Option<Case> {
 
 // Addresses and tags.
 
-fn idle_address(b: &mut Bench, mut case: Case, which: usize) -> Option<Case> {
-    b.random.flip_bit(&mut idle(&mut case, which)?.a_pk);
-    Some(case)
-}
-
 /// A note that is in the tree but for someone else's address.
 fn stranger(b: &mut Bench, case: Case, which: usize) -> Option<Case> {
     let covers = b.purse.anchor_of(&case)?.covers;
     let held = pick_held(b.random, &b.purse.strangers)?;
     held.place.filter(|place| *place < covers)?;
     put_held(b, case, held, which)
-}
-
-fn tag_bit(b: &mut Bench, mut case: Case, which: usize) -> Option<Case> {
-    b.random.flip_bit(&mut case.tags[which]);
-    Some(case)
 }
 
 fn tag_of_other_place(mut case: Case, which: usize) -> Option<Case> {
@@ -685,20 +609,9 @@ fn tag_of_other_place(mut case: Case, which: usize) -> Option<Case> {
 
 // New notes.
 
-fn new_rho_bit(b: &mut Bench, mut case: Case, which: usize) -> Option<Case> {
-    b.random.flip_bit(&mut case.new[which].rho);
-    set_commitments(&mut case);
-    Some(case)
-}
-
 fn new_rho_of_other_place(mut case: Case, which: usize) -> Option<Case> {
     case.new[which].rho = hashes::new_rho(1 - which, &case.phi, &case.h_sig());
     set_commitments(&mut case);
-    Some(case)
-}
-
-fn commitment_bit(b: &mut Bench, mut case: Case, which: usize) -> Option<Case> {
-    b.random.flip_bit(&mut case.commitments[which]);
     Some(case)
 }
 

@@ -7,6 +7,7 @@
 
 pub mod bends;
 mod coverage;
+mod edges;
 pub mod purse;
 mod scenes;
 mod seals;
@@ -27,6 +28,9 @@ use tampers::{Tamper, TAMPERS};
 
 /// How often a bend is tried before it is put off.
 const TRIES: usize = 60;
+
+/// Of how many judged cases one is followed by a look at the memory.
+const CASES_TO_A_LOOK: usize = 24;
 
 /// A tape, the lines it must print, and what it reaches.
 pub struct Tape {
@@ -70,6 +74,11 @@ struct Maker {
     /// Kinds of seals that have not been on the tape yet; all of them again
     /// once they have been.
     seals_due: Vec<seals::Kind>,
+    /// Whether the ledger was planted, not opened.
+    is_planted: bool,
+    /// Whether something was done to a planted ledger since its memory was
+    /// looked at.
+    memory_due: bool,
     /// How many long entries may still be made; the first scenes have theirs
     /// besides.
     long_left: usize,
@@ -91,6 +100,8 @@ impl Maker {
             pairs_due: neighbours(),
             tampers_due: Vec::new(),
             seals_due: Vec::new(),
+            is_planted: false,
+            memory_due: false,
             long_left: wanted.saturating_sub(600) / 150,
         }
     }
@@ -123,6 +134,14 @@ impl Maker {
     fn put(&mut self, kind: u8, body: &[u8], purpose: Option<String>) -> Vec<String> {
         let lines = self.player.play(kind, body).expect("a sound entry");
         let bytes = entry(kind, body);
+        match kind {
+            b'O' | b'P' => self.is_planted = kind == b'P',
+            b'M' => self.memory_due = false,
+            _ => (),
+        }
+        if matches!(kind, b'P' | b'C' | b'B') {
+            self.memory_due = self.is_planted;
+        }
         self.made.push(Made { bytes, purpose });
         lines
     }
@@ -138,6 +157,13 @@ impl Maker {
     fn ask_case(&mut self, file: &[u8], expected: Answer, purpose: &str) {
         let answer = self.ask(b'C', file, Some(purpose.to_owned()));
         assert_eq!(answer, expected, "a case made for: {purpose}");
+        if self.random.one_in(CASES_TO_A_LOOK) {
+            self.look_at_memory(if answer.is_pass() {
+                "memory after an acceptance"
+            } else {
+                "memory after a refusal"
+            });
+        }
     }
 
     /// Puts a case on the tape that would get this answer on a ledger that
@@ -387,6 +413,20 @@ impl Maker {
         self.put(b'R', &[], None);
     }
 
+    /// A refusal must leave every byte as it was, an acceptance the spare
+    /// ones.
+    fn look_at_memory(&mut self, purpose: &str) {
+        self.put(b'M', &[], Some(purpose.to_owned()));
+    }
+
+    /// Before another ledger takes its place: a planted one has spare bytes
+    /// that are not zero, and whatever was done on it must have left them.
+    fn leave_ledger(&mut self) {
+        if self.memory_due {
+            self.look_at_memory("memory of a planted ledger");
+        }
+    }
+
     fn seal(&mut self) {
         if self.seals_due.is_empty() {
             self.seals_due = seals::KINDS.to_vec();
@@ -399,6 +439,7 @@ impl Maker {
 
     /// Opens a fresh ledger with buffers of these lengths.
     fn open(&mut self, table: usize, roll: usize) {
+        self.leave_ledger();
         let body = scenes::opening(table, roll);
         let expected = if roll < 32 { 1 } else { 0 };
         let answer = self.ask(b'O', &body, None);
@@ -408,6 +449,7 @@ impl Maker {
 
     /// Plants a ledger; the purse must be set to fit.
     fn plant(&mut self, ledger: &Ledger, purpose: &str) {
+        self.leave_ledger();
         let body = plant_body(ledger);
         self.put(b'P', &body, Some(format!("planted: {purpose}")));
     }

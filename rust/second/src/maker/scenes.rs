@@ -11,21 +11,22 @@ use crate::wallet::{balance, idle_note, set_nullifiers, write_case, Note, Plan};
 
 use super::bends::{bend_named, BENDS};
 use super::purse::Purse;
+use super::seals::KINDS;
 use super::tampers::{fill_spare_bytes, fill_unused_nodes, most_pool, TAMPERS};
-use super::Maker;
+use super::{Made, Maker};
 
 type Scene = fn(&mut Maker);
 
 /// Every tape that is long enough has each of these, in a random order.
-const FIRST: [Scene; 16] = [
-    day,
+const FIRST: [Scene; 15] = [
+    one_of_each,
     bench,
     bench,
     narrow_rooms,
     damage,
     damage,
-    damage,
     spare_rows,
+    rows_beside,
     anywhere,
     wrong_lengths,
     big_table_with_room,
@@ -33,17 +34,17 @@ const FIRST: [Scene; 16] = [
     full_roll,
     deep_records,
     order,
-    order,
 ];
 
 /// What follows is chosen from these.
-const LATER: [Scene; 11] = [
+const LATER: [Scene; 12] = [
     day,
     day,
     day,
     narrow_rooms,
     damage,
     spare_rows,
+    rows_beside,
     elsewhere,
     anywhere,
     order,
@@ -51,8 +52,10 @@ const LATER: [Scene; 11] = [
     something_long,
 ];
 
-/// Values of the notes of a ledger from elsewhere.
-const ODD_VALUES: [Amount; 9] = [
+/// Values of the notes of a ledger from elsewhere. Two of them are spent at
+/// most; so two of the greatest are left, whose sum has more than 64 bits.
+const ODD_VALUES: [Amount; 10] = [
+    Amount(u64::MAX),
     Amount(u64::MAX),
     Amount(u64::MAX),
     Amount(u64::MAX),
@@ -65,13 +68,14 @@ const ODD_VALUES: [Amount; 9] = [
 ];
 
 /// How many due bends and pairs one scene works off.
-const DUE_AT_ONCE: usize = 60;
+const DUE_AT_ONCE: usize = 90;
 
 /// How many tampers one scene has.
-const TAMPERS_AT_ONCE: usize = TAMPERS.len().div_ceil(3);
+const TAMPERS_AT_ONCE: usize = TAMPERS.len().div_ceil(2);
 
 impl Maker {
-    /// Plays the first scenes, works off what is still due, and goes on with
+    /// Plays the first scenes, works off what is still due, so that every
+    /// bend and every pair of neighbours is on the tape, and goes on with
     /// random scenes until there are enough entries.
     pub(super) fn play_scenes(&mut self) {
         if self.random.one_in(2) {
@@ -82,17 +86,21 @@ impl Maker {
         for scene in first {
             self.play_scene(scene);
         }
-        self.play_scene(elsewhere);
-        for _ in 0..3 {
-            if !self.bends_due.is_empty() {
-                self.play_scene(elsewhere);
-                self.play_scene(bench);
+        let benches: [Scene; 2] = [bench_elsewhere, bench];
+        for scene in benches.into_iter().cycle() {
+            if self.is_done() || self.is_nothing_due() {
+                break;
             }
+            self.play_scene(scene);
         }
         while !self.is_done() {
             let scene = *self.random.pick(&LATER);
             self.play_scene(scene);
         }
+    }
+
+    fn is_nothing_due(&self) -> bool {
+        self.bends_due.is_empty() && self.pairs_due.is_empty()
     }
 
     /// Plays a scene and a few seals, if there are not enough entries yet.
@@ -114,8 +122,22 @@ fn length_of(random: &mut Random, rows: usize) -> usize {
     rows * ROW_BYTES + odd_bytes
 }
 
+/// A length of this many rows and some bytes of another, for planted buffers:
+/// those bytes belong to no row, and have to stay.
+fn ragged_length(random: &mut Random, rows: usize) -> usize {
+    rows * ROW_BYTES + 1 + random.below(ROW_BYTES - 1)
+}
+
+/// Two seals until each kind was on the tape, then as the dice say.
 fn seals(maker: &mut Maker) {
-    for _ in 0..1 + maker.random.below(4) {
+    let is_seal = |made: &&Made| made.bytes[0] == b'S';
+    let so_far = maker.made.iter().filter(is_seal).count();
+    let more = if so_far < KINDS.len() {
+        2
+    } else {
+        maker.random.below(3)
+    };
+    for _ in 0..more {
         maker.seal();
     }
 }
@@ -139,6 +161,31 @@ fn day(maker: &mut Maker) {
     }
     maker.look_at_ledger();
     maker.look_at_rows();
+}
+
+/// A day of one step of each kind.
+fn one_of_each(maker: &mut Maker) {
+    let mut steps: [Scene; 7] = [
+        Maker::pair_case,
+        Maker::mended_case,
+        Maker::replayed_case,
+        Maker::close_block,
+        Maker::bent_case,
+        Maker::good_case,
+        replant,
+    ];
+    maker.random.shuffle(&mut steps);
+    let table = length_of(&mut maker.random, 20);
+    let roll = length_of(&mut maker.random, 5);
+    maker.open(table, roll);
+    maker.good_case();
+    maker.look_at_memory("memory after an acceptance");
+    maker.wrong_length();
+    maker.look_at_memory("memory after a refusal");
+    for step in steps {
+        step(maker);
+    }
+    maker.look_at_ledger();
 }
 
 fn open_for_a_day(maker: &mut Maker) {
@@ -183,12 +230,17 @@ fn bench(maker: &mut Maker) {
         maker.close_block();
     }
     maker.good_case();
+    due_cases(maker);
+    maker.look_at_ledger();
+}
+
+/// Works off what is due and can be made here.
+fn due_cases(maker: &mut Maker) {
     for _ in 0..DUE_AT_ONCE {
         if !maker.due_case() {
             break;
         }
     }
-    maker.look_at_ledger();
 }
 
 /// Plants the ledger as it is, with random bytes in every unused part.
@@ -204,7 +256,9 @@ fn replant(maker: &mut Maker) {
 
 /// Tables and rolls with hardly a row, or none.
 fn narrow_rooms(maker: &mut Maker) {
-    for (table_rows, roll_rows) in [(4, 0), (0, 1), (1, 1), (2, 1), (5, 2), (0, 0)] {
+    let none_or_four = *maker.random.pick(&[0, 4]);
+    let none_or_one = *maker.random.pick(&[0, 1]);
+    for (table_rows, roll_rows) in [(none_or_four, 0), (none_or_one, 1), (2, 1), (5, 2)] {
         let table = length_of(&mut maker.random, table_rows);
         let roll = length_of(&mut maker.random, roll_rows);
         maker.open(table, roll);
@@ -216,27 +270,30 @@ fn narrow_rooms(maker: &mut Maker) {
         maker.case_bent_by(bend_named("both public values, balanced"));
         maker.look_at_ledger();
         if maker.random.one_in(2) {
-            maker.look_at_rows();
+            maker.look_at_memory("memory of narrow rooms");
         }
     }
 }
 
-/// A ledger of a few cases and blocks, with room for more.
-fn small_ledger(maker: &mut Maker) {
-    let table = length_of(&mut maker.random, 12);
-    let roll = length_of(&mut maker.random, 6);
+/// A ledger of a few cases and blocks, with room for more. What is given back
+/// is for planting: the same with spare bytes that are not zero.
+fn small_ledger(maker: &mut Maker) -> Ledger {
+    let table = ragged_length(&mut maker.random, 12);
+    let roll = ragged_length(&mut maker.random, 6);
     maker.open(table, roll);
     maker.good_case();
     maker.good_case();
     maker.close_block();
     maker.good_case();
     maker.close_block();
+    let mut ledger = maker.player.ledger.clone();
+    fill_spare_bytes(&mut maker.random, &mut ledger);
+    ledger
 }
 
-/// Some of the tampers on a small ledger; three such scenes have them all.
+/// Some of the tampers on a small ledger; two such scenes have them all.
 fn damage(maker: &mut Maker) {
-    small_ledger(maker);
-    let sound = maker.player.ledger.clone();
+    let sound = small_ledger(maker);
     let purse = maker.purse.clone();
     for _ in 0..TAMPERS_AT_ONCE {
         let tamper = maker.next_tamper();
@@ -251,13 +308,13 @@ fn damage(maker: &mut Maker) {
     }
 }
 
-/// A case, a block or a look at a planted ledger.
+/// A case, and perhaps a block or a look at a planted ledger.
 fn try_planted(maker: &mut Maker) {
     let case = maker.purse.good_case(&mut maker.random);
     let is_on_roll = maker.player.ledger.has_anchor(&case.anchor);
     let answer = Answer::new(if is_on_roll { 0 } else { 6 }, 0);
     maker.judge(&case, answer, "good case");
-    match maker.random.below(8) {
+    match maker.random.below(18) {
         0 => maker.look_at_rows(),
         1 => maker.look_at_ledger(),
         2 => maker.wrong_length(),
@@ -268,8 +325,7 @@ fn try_planted(maker: &mut Maker) {
 
 /// Rows that only look used: they lie past the counts.
 fn spare_rows(maker: &mut Maker) {
-    small_ledger(maker);
-    let sound = maker.player.ledger.clone();
+    let sound = small_ledger(maker);
     let purse = maker.purse.clone();
     nullifiers_in_spare_rows(maker, sound.clone());
     maker.purse = purse;
@@ -300,13 +356,56 @@ fn anchor_in_spare_row(maker: &mut Maker, mut ledger: Ledger) {
     maker.look_at_rows();
 }
 
+/// Rows below and above a case's nullifiers that are off in their first or last
+/// byte only: the case passes, and its nullifiers come to stand between them.
+fn rows_beside(maker: &mut Maker) {
+    let name = "rows beside the nullifiers";
+    maker.purse = Purse::from_elsewhere(&mut maker.random, &[Amount(1), Amount(2)]);
+    let case = maker.purse.good_case(&mut maker.random);
+    let mut rows = Vec::new();
+    for nullifier in case.nullifiers {
+        for (place, byte) in [(0, 0), (0, 255), (31, 0), (31, 255)] {
+            let mut row = nullifier;
+            let is_alike = row[place] == byte;
+            row[place] = if is_alike { byte ^ 1 } else { byte };
+            rows.push(row);
+        }
+    }
+    rows.sort();
+    let table = ragged_length(&mut maker.random, 12);
+    let ledger = ledger_from_elsewhere(maker, &rows, table, 3);
+    maker.plant(&ledger, name);
+    maker.judge(&case, Answer::PASSED, name);
+    maker.look_at_rows();
+}
+
 fn write_row(buffer: &mut [u8], row: usize, bytes: &Bytes32) {
     buffer[row * ROW_BYTES..(row + 1) * ROW_BYTES].copy_from_slice(bytes);
 }
 
+/// A day on a ledger from elsewhere.
+fn elsewhere(maker: &mut Maker) {
+    plant_elsewhere(maker);
+    for _ in 0..6 + maker.random.below(8) {
+        step(maker);
+    }
+    maker.look_at_ledger();
+    maker.look_at_rows();
+}
+
+/// Some due bends need notes of values that no ledger grown here has. Two of
+/// them seldom come into one case, so they are tried for longer.
+fn bench_elsewhere(maker: &mut Maker) {
+    plant_elsewhere(maker);
+    for _ in 0..5 {
+        due_cases(maker);
+    }
+    maker.look_at_ledger();
+}
+
 /// A ledger that was never grown here: any record, any rows, notes of any
 /// value in a tree of their own.
-fn elsewhere(maker: &mut Maker) {
+fn plant_elsewhere(maker: &mut Maker) {
     maker.purse = Purse::from_elsewhere(&mut maker.random, &ODD_VALUES);
     let mut spent = Vec::new();
     for _ in 0..1 + maker.random.below(2) {
@@ -315,17 +414,9 @@ fn elsewhere(maker: &mut Maker) {
     let cases = 1 + maker.random.below(4);
     let rows = rows_with(&mut maker.random, &spent, 2 * cases);
     let table_rows = 2 * cases + 8 + maker.random.below(20);
-    let table = length_of(&mut maker.random, table_rows);
+    let table = ragged_length(&mut maker.random, table_rows);
     let ledger = ledger_from_elsewhere(maker, &rows, table, 5);
     maker.plant(&ledger, "ledger from elsewhere");
-    for _ in 0..10 {
-        maker.due_case();
-    }
-    for _ in 0..6 + maker.random.below(8) {
-        step(maker);
-    }
-    maker.look_at_ledger();
-    maker.look_at_rows();
 }
 
 /// Two notes of value at any positions at all, one in each half of a tree.
@@ -362,6 +453,17 @@ impl Twins {
         if random.one_in(2) {
             old[random.below(2)] = idle_note(random);
         }
+        self.case_of(random, old)
+    }
+
+    /// A case that spends one of the two, in this place.
+    fn case_in_place(&self, random: &mut Random, which: usize) -> Case {
+        let mut old = [idle_note(random), idle_note(random)];
+        old[which] = self.old[which].clone();
+        self.case_of(random, old)
+    }
+
+    fn case_of(&self, random: &mut Random, old: [OldNote; 2]) -> Case {
         let plan = Plan {
             vpub_old: Amount::ZERO,
             vpub_new: Amount::ZERO,
@@ -381,7 +483,7 @@ impl Twins {
 /// Notes at positions that no ledger could grow to, the last leaf among
 /// them, with random nodes beside them at every level.
 fn anywhere(maker: &mut Maker) {
-    let twins: [Twins; 3] = std::array::from_fn(|_| Twins::random(&mut maker.random));
+    let twins: [Twins; 2] = std::array::from_fn(|_| Twins::random(&mut maker.random));
     let near_roots = [0, 31].map(|byte| {
         let mut root = twins[0].anchor;
         maker.random.flip_bit_of(&mut root[byte]);
@@ -389,14 +491,16 @@ fn anywhere(maker: &mut Maker) {
     });
     maker.purse = Purse::from_elsewhere(&mut maker.random, &[Amount(1)]);
     let rows = rows_with(&mut maker.random, &[], 4);
-    let mut ledger = ledger_from_elsewhere(maker, &rows, 12 * ROW_BYTES, 5);
+    let table = ragged_length(&mut maker.random, 12);
+    let mut ledger = ledger_from_elsewhere(maker, &rows, table, 5);
     let roots = twins.iter().map(|twins| twins.anchor).chain(near_roots);
     for (row, root) in roots.enumerate() {
         write_row(&mut ledger.roll, row, &root);
     }
     maker.plant(&ledger, "notes at any position");
     for root in near_roots {
-        spend_by_another_root(maker, &twins[0], root);
+        spend_by_another_root(maker, &twins[0], root, 0);
+        spend_by_another_root(maker, &twins[0], root, 1);
     }
     for twins in &twins {
         spend_twins(maker, twins);
@@ -405,15 +509,11 @@ fn anywhere(maker: &mut Maker) {
 }
 
 /// A case whose anchor is on the roll but is not where its paths lead.
-fn spend_by_another_root(maker: &mut Maker, twins: &Twins, root: Bytes32) {
-    let mut case = twins.case(&mut maker.random);
+fn spend_by_another_root(maker: &mut Maker, twins: &Twins, root: Bytes32, which: usize) {
+    let mut case = twins.case_in_place(&mut maker.random, which);
     case.anchor = root;
-    let place = if case.old[0].value == Amount::ZERO {
-        2
-    } else {
-        1
-    };
-    maker.judge(&case, Answer::new(10, place), "nearly the paths' root");
+    let answer = Answer::new(10, which as u8 + 1);
+    maker.judge(&case, answer, "nearly the paths' root");
 }
 
 /// A case of two notes, first with its paths bent.
@@ -485,7 +585,7 @@ fn ledger_from_elsewhere(
         count: rows.len() as u32,
         nodes: std::array::from_fn(|_| random.bytes()),
     };
-    let roll_length = length_of(random, anchors + 1);
+    let roll_length = ragged_length(random, anchors + 1);
     let mut ledger = Ledger {
         table: rows.concat(),
         roll: roll.concat(),
@@ -529,9 +629,6 @@ fn big_table(maker: &mut Maker, spent: usize) {
     maker.bent_case();
     maker.close_block();
     maker.look_at_ledger();
-    if maker.random.one_in(3) {
-        maker.look_at_rows();
-    }
 }
 
 fn plant_big_table(maker: &mut Maker, spent: usize) {
@@ -542,7 +639,7 @@ fn plant_big_table(maker: &mut Maker, spent: usize) {
     let mut rows = given.clone();
     rows.extend((given.len()..spent).map(|_| maker.random.bytes::<32>()));
     rows.sort();
-    let table = length_of(&mut maker.random, MAX_SPENT);
+    let table = ragged_length(&mut maker.random, MAX_SPENT);
     let ledger = ledger_from_elsewhere(maker, &rows, table, 3);
     maker.plant(&ledger, &format!("{spent} nullifiers"));
 }
@@ -552,7 +649,8 @@ fn full_roll(maker: &mut Maker) {
     maker.purse = Purse::from_elsewhere(&mut maker.random, &[Amount(5), Amount(6)]);
     let rows = rows_with(&mut maker.random, &[], 4);
     let anchors = MAX_ANCHORS - 1;
-    let mut ledger = ledger_from_elsewhere(maker, &rows, 8 * ROW_BYTES, anchors);
+    let table = ragged_length(&mut maker.random, 8);
+    let mut ledger = ledger_from_elsewhere(maker, &rows, table, anchors);
     if maker.random.one_in(2) {
         ledger.anchors = MAX_ANCHORS as u64;
     }
@@ -585,7 +683,7 @@ const DEEP_COUNTS: [u32; 11] = [
 fn deep_records(maker: &mut Maker) {
     let mut counts = DEEP_COUNTS;
     maker.random.shuffle(&mut counts[2..]);
-    for count in &counts[..6] {
+    for count in &counts[..5] {
         let ledger = deep_ledger(&mut maker.random, *count);
         maker.plant(&ledger, &format!("record of {count} leaves"));
         maker.look_at_ledger();
@@ -597,7 +695,8 @@ fn deep_records(maker: &mut Maker) {
 
 /// A damaged ledger with a record of this many leaves.
 fn deep_ledger(random: &mut Random, count: u32) -> Ledger {
-    let mut ledger = Ledger::zeroed(vec![0; 100], vec![1; 40]);
+    let mut ledger = Ledger::zeroed(vec![0; 100], vec![0; 40]);
+    fill_spare_bytes(random, &mut ledger);
     ledger.tree = Tree::planted(Record {
         count,
         nodes: std::array::from_fn(|_| random.bytes()),
@@ -607,35 +706,35 @@ fn deep_ledger(random: &mut Random, count: u32) -> Ledger {
     ledger
 }
 
-/// Two cases in one order and then, from the same ledger, in the other.
+/// Two cases in one order and then, from the same ledger, in the other: first
+/// two that share a nullifier, then two that do not.
 fn order(maker: &mut Maker) {
-    small_ledger(maker);
-    let ledger = maker.player.ledger.clone();
+    let ledger = small_ledger(maker);
     let purse = maker.purse.clone();
-    let shares = maker.random.one_in(2);
-    let (one, other) = if shares {
-        sharing_cases(maker)
-    } else {
-        unrelated_cases(maker)
-    };
-    let mut answers = Vec::new();
-    for files in [[&one, &other], [&other, &one]] {
-        maker.plant(&ledger, "ledger for two orders");
-        answers.push(files.map(|file| maker.ask(b'C', file, Some("two orders".to_owned()))));
-        maker.look_at_ledger();
-        maker.look_at_rows();
+    let pair = sharing_cases(maker);
+    for answers in both_orders(maker, &ledger, pair) {
+        let is_spent = answers[0].is_pass() && answers[1].number == 8;
+        assert!(is_spent, "the second is refused as spent");
     }
-    if shares {
-        let is_spent = |pair: &[Answer; 2]| pair[0].is_pass() && pair[1].number == 8;
-        assert!(
-            answers.iter().all(is_spent),
-            "the second is refused as spent"
-        );
-    } else {
-        assert_eq!(answers[0], [answers[1][1], answers[1][0]], "order matters");
-    }
+    let pair = unrelated_cases(maker);
+    let answers = both_orders(maker, &ledger, pair);
+    assert_eq!(answers[0], [answers[1][1], answers[1][0]], "order matters");
     maker.purse = purse;
     maker.purse.stop_growing();
+}
+
+/// The answers to both orders, each on this ledger.
+fn both_orders(
+    maker: &mut Maker,
+    ledger: &Ledger,
+    (one, other): (Vec<u8>, Vec<u8>),
+) -> [[Answer; 2]; 2] {
+    [[&one, &other], [&other, &one]].map(|files| {
+        maker.plant(ledger, "ledger for two orders");
+        let answers = files.map(|file| maker.ask(b'C', file, Some("two orders".to_owned())));
+        maker.look_at_ledger();
+        answers
+    })
 }
 
 /// Two files without a common nullifier, good or bent.
@@ -704,7 +803,7 @@ fn broken_entry(random: &mut Random) -> Vec<u8> {
     long_plant.push(0);
     match random.below(13) {
         0 => entry(*random.pick(b"XoA\0\xff"), &[]),
-        1 => entry(*random.pick(b"BLR"), &[0]),
+        1 => entry(*random.pick(b"BLRM"), &[0]),
         2 => entry(b'O', &opening(64, 64)[..7]),
         3 => entry(b'O', &[0; 9]),
         4 => entry(b'O', &opening(MAX_TABLE_BYTES + 1, 64)),

@@ -225,12 +225,15 @@ fn replace_waiting_nodes(random: &mut Random, ledger: &mut Ledger) {
     set_record(ledger, record);
 }
 
-/// Random bytes past the used rows.
+/// Random bytes past the used rows, none of them zero: then a spare byte that
+/// is cleared, or written over, shows.
 pub fn fill_spare_bytes(random: &mut Random, ledger: &mut Ledger) {
     let spent = ledger.spent as usize * ROW_BYTES;
     let anchors = ledger.anchors as usize * ROW_BYTES;
-    random.fill(&mut ledger.table[spent..]);
-    random.fill(&mut ledger.roll[anchors..]);
+    let spare = ledger.table[spent..].iter_mut();
+    for byte in spare.chain(&mut ledger.roll[anchors..]) {
+        *byte = 1 + random.below(255) as u8;
+    }
 }
 
 fn repeat_anchors(_: &mut Random, ledger: &mut Ledger) {

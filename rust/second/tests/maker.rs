@@ -3,7 +3,7 @@
 use std::ops::Range;
 
 use second::answer::Answer;
-use second::bytes::Bytes32;
+use second::bytes::{Bytes32, Reader};
 use second::case::Case;
 use second::hashes;
 use second::judge::{first_refusal, Rule, RULES};
@@ -11,6 +11,7 @@ use second::ledger::{Ledger, ROW_BYTES};
 use second::maker::bends::BENDS;
 use second::maker::make_tape;
 use second::maker::tampers::TAMPERS;
+use second::seal::{Calibration, Gate, Seal, SEAL_BYTES};
 use second::tape::{play, read_plant, Player};
 use second::tree::climb;
 
@@ -341,6 +342,34 @@ fn planted_ledgers_have_spare_bytes_that_are_not_zero() {
             ragged > 100,
             "seed {seed}: {ragged} buffers end inside a row"
         );
+    }
+}
+
+/// The gates at which a tape has a pull that is no number.
+fn gates_without_number(tape: &[u8]) -> Vec<Gate> {
+    let mut gates = Vec::new();
+    for (kind, body) in entries(tape) {
+        let mut reader = Reader::new(body);
+        let numbers = (reader.f64(), reader.f64());
+        if let (b'S', (Some(gain), Some(offset))) = (kind, numbers) {
+            let seal = reader.run(SEAL_BYTES).and_then(Seal::read);
+            let calibration = Calibration { gain, offset };
+            gates.extend(
+                seal.filter(|seal| calibration.pull(seal.raw).is_nan())
+                    .map(|seal| seal.gate),
+            );
+        }
+    }
+    gates
+}
+
+#[test]
+fn a_tape_has_a_pull_that_is_no_number_at_every_sound_gate() {
+    for seed in SEEDS {
+        let gates = gates_without_number(&make_tape(seed, 600).bytes);
+        for gate in [Gate::None, Gate::AtLeast(-1.0), Gate::Between(-1.0, 1.0)] {
+            assert!(gates.contains(&gate), "seed {seed}: {gate:?}");
+        }
     }
 }
 

@@ -30,7 +30,7 @@ use tampers::{Tamper, TAMPERS};
 const TRIES: usize = 60;
 
 /// Of how many judged cases one is followed by a look at the memory.
-const CASES_TO_A_LOOK: usize = 24;
+const CASES_TO_A_LOOK: usize = 30;
 
 /// A tape, the lines it must print, and what it reaches.
 pub struct Tape {

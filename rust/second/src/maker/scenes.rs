@@ -150,6 +150,7 @@ fn before_the_first_ledger(maker: &mut Maker) {
     maker.wrong_length();
     maker.close_block();
     maker.look_at_ledger();
+    maker.look_at_memory("memory before the first ledger");
 }
 
 /// An ordinary day: cases good and bent, blocks closed, looks taken.

@@ -43,8 +43,6 @@ pub type Kind = fn(&mut Random) -> Vec<u8>;
 pub const KINDS: &[Kind] = &[
     all_random,
     all_odd,
-    all_odd,
-    at_an_end,
     at_an_end,
     just_outside,
     overflowing,
@@ -59,6 +57,15 @@ pub const KINDS: &[Kind] = &[
     |_| of(1.0, 0.0, Gate::AtLeast(f64::NEG_INFINITY), 1.0),
     |_| of(0.5, 0.0, Gate::None, TINY),
     |_| of(0.75, 0.0, Gate::AtLeast(TINY), TINY),
+    // A pull that is no number at every gate, and one beyond all numbers.
+    |_| of(1.0, 0.0, Gate::None, f64::NAN),
+    |_| of(1.0, 0.0, Gate::AtLeast(-1.0), f64::NAN),
+    |_| of(1.0, 0.0, Gate::Between(-1.0, 1.0), f64::NAN),
+    |_| of(1.0, 0.0, Gate::AtLeast(-1.0), f64::INFINITY),
+    // Limits that are no number.
+    |_| of(1.0, 0.0, Gate::AtLeast(f64::NAN), 1.0),
+    |_| of(1.0, 0.0, Gate::Between(f64::NAN, 2.0), 1.0),
+    |_| of(1.0, 0.0, Gate::Between(0.0, f64::NAN), 1.0),
     // An unused limit that is not zero bytes, and unknown gate kinds.
     |random| unreadable(random, 0, MINUS_ZERO, 0),
     |random| unreadable(random, 0, 0, MINUS_ZERO),

@@ -294,7 +294,8 @@ fn what_is_done_on_a_planted_ledger_is_followed_by_a_look_at_its_memory() {
         let tape = make_tape(seed, 600);
         let mut is_planted = false;
         let mut is_due = false;
-        for (kind, _) in entries(&tape.bytes) {
+        // A broken entry may follow the sound ones.
+        for (kind, _) in entries(&tape.bytes).into_iter().take(600) {
             match kind {
                 b'O' | b'P' => {
                     assert!(!is_due, "seed {seed}: left without a look");
@@ -323,7 +324,7 @@ fn planted_ledgers_have_spare_bytes_that_are_not_zero() {
     for seed in SEEDS {
         let tape = make_tape(seed, 600);
         let mut ragged = 0;
-        for (kind, body) in entries(&tape.bytes) {
+        for (kind, body) in entries(&tape.bytes).into_iter().take(600) {
             if kind != b'P' {
                 continue;
             }

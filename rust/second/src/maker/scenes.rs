@@ -342,6 +342,14 @@ fn nullifiers_in_spare_rows(maker: &mut Maker, mut ledger: Ledger) {
     maker.plant(&ledger, name);
     maker.judge(&case, Answer::PASSED, name);
     maker.look_at_rows();
+    refused_late(maker);
+}
+
+/// Refusals that a judge which writes too early has written before: the
+/// spare rows would show it when the planted ledger's memory is looked at.
+fn refused_late(maker: &mut Maker) {
+    maker.case_bent_by(bend_named("spent note in place 2"));
+    maker.case_bent_by(bend_named("commitment 2 off in its last byte"));
 }
 
 fn anchor_in_spare_row(maker: &mut Maker, mut ledger: Ledger) {

@@ -54,13 +54,14 @@ fn word(s: &[u8], at: usize) -> u64
     )
 }
 
-// How the row of a at index i stands to the row of b at index j.
-pub fn compare(a: &[u8], i: usize, b: &[u8], j: usize) -> Order
+// How they stand by the words past the first. Apart, so that `compare` is short enough to be compiled into
+// its callers: of two rows of hashes the first words decide.
+fn compare_rest(a: &[u8], i: usize, b: &[u8], j: usize) -> Order
     requires { ⌜ i + 32 ≤ length (now a) ⌝ }
     requires { ⌜ j + 32 ≤ length (now b) ⌝ }
-    ensures { λ r. ⌜ r ≡ byteOrder (take 32 (drop i (now (a .entry)))) (take 32 (drop j (now (b .entry)))) ⌝ }
+    ensures { λ r. ⌜ r ≡ byteOrder (take 24 (drop (i + 8) (now (a .entry)))) (take 24 (drop (j + 8) (now (b .entry)))) ⌝ }
 {
-    for k in 0..4 {
+    for k in 1..4 {
         let x = word(a, i + k * 8);
         let y = word(b, j + k * 8);
         if x < y {
@@ -71,4 +72,21 @@ pub fn compare(a: &[u8], i: usize, b: &[u8], j: usize) -> Order
         }
     }
     Order::Equal
+}
+
+// How the row of a at index i stands to the row of b at index j.
+pub fn compare(a: &[u8], i: usize, b: &[u8], j: usize) -> Order
+    requires { ⌜ i + 32 ≤ length (now a) ⌝ }
+    requires { ⌜ j + 32 ≤ length (now b) ⌝ }
+    ensures { λ r. ⌜ r ≡ byteOrder (take 32 (drop i (now (a .entry)))) (take 32 (drop j (now (b .entry)))) ⌝ }
+{
+    let x = word(a, i);
+    let y = word(b, j);
+    if x < y {
+        return Order::Less;
+    }
+    if y < x {
+        return Order::Greater;
+    }
+    compare_rest(a, i, b, j)
 }

@@ -1,0 +1,41 @@
+use mathlib.Core.Path.{_≡_, _∙_}
+use Prim.Native.Nat.{_/_, _<_, _≤_}
+use native.Mathlib.Omega.{arith}
+use lib.ListN.{length}
+use borrow.Author.Tests.{lt-ltb, le-ltb}
+use Rattle.host.specs.Books.{dayAnswer, dayAfter}
+use borrow.Author.Needs.{needs}
+use Rattle.host.proofs.snaldrek_day.Statement.{statement}
+use Rattle.host.proofs.snaldrek_day.Tie as tie
+
+returns : tie.Need-returns
+unfolding dayAnswer dayAfter
+returns c =
+    let a = c .before .before .before .before .args in
+    let h = le-ltb (a .row) (length (a .list .now) / 6) (omega arith) in
+    (c .code .ensures ∙ rw (c .before .refused .ensures, h), rw h)
+
+returns-2 : tie.Need-returns-2
+unfolding dayAnswer dayAfter
+returns-2 c =
+    let k = c .before .before .before .before in
+    let d = k .before .before .before in
+    let a = d .before .before .before .args in
+    let h = lt-ltb (a .row) (length (a .list .now) / 6) (omega arith) in
+    (c .code2 .ensures ∙ rw (c .before .accepted .ensures, h), k .copy-in .ensures .1 ∙ rw (d .day-row .ensures, h))
+
+pub snaldrek-day-spec : {M : Type 1} → statement M
+snaldrek-day-spec =
+    tie.close
+    (tie.spec
+    (λ c κs. search needs)
+    (λ c κs. search needs)
+    returns
+    (λ c κs. search needs)
+    (λ c. search needs)
+    (λ c. search needs)
+    (λ c κs. search needs)
+    (λ c κs. search needs)
+    (λ c κs. search needs)
+    (λ c. search needs)
+    returns-2)

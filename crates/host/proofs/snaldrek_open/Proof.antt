@@ -1,0 +1,41 @@
+use mathlib.Core.Path.{_≡_, _∙_}
+use native.Mathlib.Omega.{arith}
+use lib.ListN.{length}
+use borrow.Author.Tests.{eq-eqb, ne-eqb}
+use Rattle.ledgerbytes.specs.Keeping.{written}
+use Rattle.host.specs.Ledgers.{openAnswer, openRoll}
+use borrow.Author.Needs.{needs}
+use Rattle.host.proofs.snaldrek_open.Statement.{statement}
+use Rattle.host.proofs.snaldrek_open.Tie as tie
+
+returns : tie.Need-returns
+unfolding openAnswer openRoll written
+returns c =
+    let p = c .before .before in
+    let h = ne-eqb (length (p .before .before .before .args .ledger .now)) 988 (p .if1 .taken) in
+    (c .code .ensures ∙ rw (c .before .refused .ensures, h), (rw h, rw h))
+
+returns-2 : tie.Need-returns-2
+unfolding openAnswer openRoll
+returns-2 c =
+    let w = c .before .before .before in
+    let o = w .before .before .before .before in
+    let p = o .before .before in
+    let h = eq-eqb (length (p .before .before .before .args .ledger .now)) 988 (omega arith) in (
+      c .code2 .ensures ∙ rw (o .«open» .ensures .0, h),
+      (w .write .ensures .1 ∙ rw (o .«open» .ensures .1 .0), o .«open» .ensures .1 .1 ∙ rw h),
+    )
+
+pub snaldrek-open-spec : {M : Type 1} → statement M
+snaldrek-open-spec =
+    tie.close
+    (tie.spec
+    (λ c κs. search needs)
+    (λ c κs. search needs)
+    returns
+    (λ c κs. search needs)
+    (λ c κs. search needs)
+    (λ c κs. search needs)
+    (λ c. search needs)
+    (λ c. search needs)
+    returns-2)

@@ -1,0 +1,28 @@
+-- Answers as C has them, and the refusals of this room alone.
+-- Assumes nothing.
+use Prim.Native.Nat.{ℕ, _+_, _*_}
+use mathlib.Core.Bool.{Bool}
+use mathlib.Core.List.{List}
+use lib.Dec.{eqb}
+use lib.ListN.{length}
+use Rattle.refusals.specs.declared.Answer.{Answer}
+use Rattle.refusals.specs.Table.{answer}
+
+-- one number: the refusal's own, and 256 times its place
+abbrev pub codeOf : Answer → ℕ
+codeOf a = a .number + 256 * a .place
+
+-- 51: a lent buffer has not its length; place 1 the ledger's, 2 the root's, 3 the report's, 4 the tally's
+abbrev pub wrongLength : ℕ → Answer
+wrongLength place = answer 51 place
+
+abbrev pub isLong : ℕ → List ℕ → Bool
+isLong n b = eqb (length b) n
+
+-- 52: the tally has no room for one more
+abbrev pub tallyFull : Answer
+tallyFull = answer 52 0
+
+-- 53: the day list has no such row
+abbrev pub noSuchRow : Answer
+noSuchRow = answer 53 0

@@ -1,0 +1,61 @@
+-- A seal and a bag judged for a host. k is the scanner's calibration, b the bag's bytes, s, t and r the ledger's three buffers, o the report's.
+-- Assumes nothing.
+use Prim.Native.Nat.{ℕ}
+use mathlib.Core.Bool.{Bool, cond, _&&_}
+use mathlib.Core.List.{List, [], _∷_, _++_}
+use lib.Ieee.{Float}
+use Rattle.octets.specs.Numbers.{littleBytes}
+use Rattle.refusals.specs.declared.Answer.{Answer}
+use Rattle.refusals.specs.Table.{answer, isAccepted}
+use Rattle.seal.specs.declared.Calibration.{Calibration}
+use Rattle.seal.specs.declared.Read.{Read}
+use Rattle.seal.specs.declared.Read.the-variants.{Seal, Broken}
+use Rattle.seal.specs.declared.Sealed.{Sealed}
+use Rattle.seal.specs.declared.Sealed.the-variants.{Passed, BadLimit, NotFinite, Outside}
+use Rattle.seal.specs.Judgement.{judgeOf, sealAnswer}
+use Rattle.ledgerbytes.specs.Keeping.{isWhole, ledgerOf, bytesOf}
+use Rattle.bag.specs.declared.Scanned.{Scanned}
+use Rattle.bag.specs.Scanning.{scannedOf, tableAfterScan}
+use Rattle.host.specs.Answers.{codeOf, wrongLength, isLong}
+
+-- THE SEAL alone: a broken body is 20, and only a pass hands the pull out
+abbrev pub readAnswer : Calibration → Read → Answer
+readAnswer k (Seal gate raw) = sealAnswer (judgeOf k gate raw)
+readAnswer k Broken = answer 20 0
+
+abbrev pub handed : Sealed → Float → Float
+handed (Passed p) old = p
+handed BadLimit old = old
+handed NotFinite old = old
+handed Outside old = old
+
+abbrev pub pullAfter : Calibration → Read → Float → Float
+pullAfter k (Seal gate raw) old = handed (judgeOf k gate raw) old
+pullAfter k Broken old = old
+
+-- THE BAG. Its own answer is the layout's where that refuses, else the seal's
+abbrev pub ownAnswer : Scanned → Answer
+ownAnswer x = cond (isAccepted (x .layout)) (x .seal) (x .layout)
+
+abbrev pub scanOf : Calibration → List ℕ → List ℕ → List ℕ → List ℕ → Scanned
+scanOf k b s t r = scannedOf k b t r (ledgerOf s)
+
+unfoldable pub bagAnswer : Calibration → List ℕ → List ℕ → List ℕ → List ℕ → List ℕ → Answer
+bagAnswer k b s t r o = cond (isWhole s) (cond (isLong 32 o) (ownAnswer (scanOf k b s t r)) (wrongLength 3)) (wrongLength 1)
+
+unfoldable pub bagLedger : Calibration → List ℕ → List ℕ → List ℕ → List ℕ → List ℕ → List ℕ
+bagLedger k b s t r o = cond (isAccepted (bagAnswer k b s t r o)) (bytesOf (scanOf k b s t r .ledger)) s
+
+unfoldable pub bagTable : Calibration → List ℕ → List ℕ → List ℕ → List ℕ → List ℕ → List ℕ
+bagTable k b s t r o = cond (isWhole s && isLong 32 o) (tableAfterScan k b t r (ledgerOf s)) t
+
+-- what the cases were answered: how many they are, and seven answers, four bytes each
+unfoldable pub answersOf : List Answer → List ℕ
+answersOf [] = []
+answersOf (a ∷ rest) = littleBytes 4 (codeOf a) ++ answersOf rest
+
+unfoldable pub reportOf : Scanned → List ℕ
+reportOf x = littleBytes 4 (x .cases) ++ answersOf (x .answers)
+
+unfoldable pub bagReport : Calibration → List ℕ → List ℕ → List ℕ → List ℕ → List ℕ → List ℕ
+bagReport k b s t r o = cond (isAccepted (bagAnswer k b s t r o)) (reportOf (scanOf k b s t r)) o

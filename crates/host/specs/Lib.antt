@@ -1,0 +1,4 @@
+pub mod Answers
+pub mod Bags
+pub mod Books
+pub mod Ledgers

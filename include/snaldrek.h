@@ -1,0 +1,202 @@
+/*
+ * Snaldrek: judges disclosures of Sprout spends, for the firmware of sealed-bag scanners.
+ *
+ * Link libsnaldrek.a (x86-64, System V calling convention). It needs nothing but memcpy and memset,
+ * takes no memory of its own, makes no system call and never ends the program.
+ *
+ * ANSWERS. Every call returns one number. 0 is yes. Otherwise the low 8 bits are the number of the
+ * refusal (enum snaldrek_number), the next 8 its place, and the rest is zero. docs/REFUSALS.md has
+ * each number and place in plain words. A refusal changes no byte of any lent buffer; snaldrek_open
+ * says where it makes one exception.
+ *
+ * MEMORY. All of it is the caller's, and is lent for the time of a call: the library keeps no pointer
+ * and no state, so that the same bytes get the same answer at any time. A ledger is three buffers
+ * that belong together: its SNALDREK_LEDGER_BYTES, its nullifier table and its anchor roll. The
+ * caller decides how many rows these two have, keeps their lengths the same from call to call, and
+ * may copy, store and restore the three as plain bytes. Buffers need no alignment. Buffers lent to
+ * one call must not overlap, unless both are only read. No pointer may be null, not even one of
+ * length 0.
+ *
+ * THREADS. Calls may run at the same time on any threads, as long as no buffer that one of them
+ * writes (a pointer without const) is lent to another. So each ledger needs a lock of its own, or
+ * one thread of its own; different ledgers need nothing.
+ *
+ * NUMBERS in buffers are little-endian.
+ */
+#ifndef SNALDREK_H
+#define SNALDREK_H
+
+#include <stddef.h>
+#include <stdint.h>
+
+#ifdef __cplusplus
+extern "C" {
+#endif
+
+/* ---- Sizes, in bytes unless they count rows ---- */
+
+#define SNALDREK_CASE_BYTES 4210         /* a case file; any other length is refused with 1 */
+#define SNALDREK_BAG_MAX_BYTES 65536     /* the longest bag */
+#define SNALDREK_BAG_MAX_CASES 7         /* the most cases in a bag */
+#define SNALDREK_SEAL_BYTES 25           /* a seal's body in a bag */
+#define SNALDREK_LEDGER_BYTES 988        /* counts, pool and tree record */
+#define SNALDREK_ROW_BYTES 32            /* a row of the table or of the roll */
+#define SNALDREK_TABLE_MAX_ROWS 2048     /* nullifiers; two for each accepted case */
+#define SNALDREK_ROLL_MAX_ROWS 1024      /* anchors; one from the start, one for each closed block */
+#define SNALDREK_ROOT_BYTES 32           /* the tree's root */
+#define SNALDREK_REPORT_BYTES 32         /* what became of a bag's cases */
+#define SNALDREK_TALLY_BYTES 12          /* the shift's three counts */
+#define SNALDREK_DAY_ROW_BYTES 6         /* a row of the day list */
+
+/* Buffers of these lengths have all the room that a ledger can use. Longer ones are never refused,
+   but rows past the most are not used. */
+#define SNALDREK_TABLE_MAX_BYTES (SNALDREK_TABLE_MAX_ROWS * SNALDREK_ROW_BYTES)
+#define SNALDREK_ROLL_MAX_BYTES (SNALDREK_ROLL_MAX_ROWS * SNALDREK_ROW_BYTES)
+
+/* ---- Answers ---- */
+
+/* Every number that a call can answer with. The place is 0 where nothing else is said. */
+enum snaldrek_number {
+    SNALDREK_ACCEPTED = 0,
+
+    /* of a case, in the order in which they are looked for */
+    SNALDREK_WRONG_LENGTH = 1,          /* not SNALDREK_CASE_BYTES; opening: the roll has no row */
+    SNALDREK_LEDGER_DAMAGED = 2,        /* the ledger's bytes cannot have come from these calls */
+    SNALDREK_NO_FREE_ROW = 3,           /* fewer than two table rows; closing: no roll row */
+    SNALDREK_BOTH_PUBLIC_VALUES = 4,    /* one of the two must be zero */
+    SNALDREK_PUBLIC_VALUE_TOO_HIGH = 5, /* place 1: what enters the pool, 2: what leaves it */
+    SNALDREK_ANCHOR_UNKNOWN = 6,        /* it is not on the roll */
+    SNALDREK_NULLIFIERS_EQUAL = 7,      /* the case names one note twice */
+    SNALDREK_ALREADY_SPENT = 8,         /* place 1 or 2: which nullifier */
+    SNALDREK_OUT_OF_RANGE = 9,          /* place 1 or 2: which old note; 3: phi */
+    SNALDREK_PATH_WRONG = 10,           /* place 1 or 2: which old note */
+    SNALDREK_NOT_BALANCED = 11,         /* what goes in is not what comes out */
+    SNALDREK_NULLIFIER_WRONG = 12,      /* place 1 or 2 */
+    SNALDREK_ADDRESS_WRONG = 13,        /* place 1 or 2: which old note */
+    SNALDREK_TAG_WRONG = 14,            /* place 1 or 2 */
+    SNALDREK_RHO_WRONG = 15,            /* place 1 or 2: which new note */
+    SNALDREK_COMMITMENT_WRONG = 16,     /* place 1 or 2 */
+
+    /* of a bag and its seal */
+    SNALDREK_LAYOUT_BROKEN = 20,        /* of the bag, or of the seal's own bytes */
+    SNALDREK_GATE_BROKEN = 21,          /* a limit is not finite, or low is above high */
+    SNALDREK_PULL_NOT_FINITE = 22,
+    SNALDREK_PULL_OUTSIDE = 23,         /* of the gate: the wire was pulled */
+
+    /* of these calls themselves: mistakes of the caller, found before anything else is looked at */
+    SNALDREK_WRONG_BUFFER = 51,         /* place: which lent buffer, as in enum snaldrek_buffer */
+    SNALDREK_TALLY_FULL = 52,           /* a count that would be raised is at its most */
+    SNALDREK_NO_SUCH_ROW = 53           /* the day list ends before this row */
+};
+
+/* The place of SNALDREK_WRONG_BUFFER: whose length is not the one above. */
+enum snaldrek_buffer {
+    SNALDREK_BUFFER_LEDGER = 1,
+    SNALDREK_BUFFER_ROOT = 2,
+    SNALDREK_BUFFER_REPORT = 3,
+    SNALDREK_BUFFER_TALLY = 4
+};
+
+#define SNALDREK_NUMBER(answer) ((unsigned)((answer) & 0xffu))
+#define SNALDREK_PLACE(answer) ((unsigned)(((answer) >> 8) & 0xffu))
+
+/* ---- A ledger ---- */
+
+/* Makes the buffers those of a fresh ledger: nothing spent, no leaves, pool 0, and the empty tree's
+   root as the only anchor. Of the roll only the first row is written. A fresh ledger reads nothing
+   from its table, which is first lent to snaldrek_judge.
+   51 1: the ledger's length. 1 0: the roll has not even one row; the roll stays as it is, and the
+   ledger's bytes are all set to zero, so that no old ledger is taken for the fresh one (a ledger of
+   zeros has no anchor, and every later call refuses it with 2). */
+uint32_t snaldrek_open(uint8_t *ledger, size_t ledger_len, uint8_t *roll, size_t roll_len);
+
+/* Judges one case. Accepted, its nullifiers are in the table, its commitments in the tree and its
+   public values in the pool.
+   51 1: the ledger's length. Then 1 to 16, the first that applies. */
+uint32_t snaldrek_judge(const uint8_t *file, size_t file_len, uint8_t *ledger, size_t ledger_len,
+                        uint8_t *table, size_t table_len, const uint8_t *roll, size_t roll_len);
+
+/* Closes a block: the tree's root goes onto the roll, and later cases may use it as their anchor.
+   51 1: the ledger's length. Then 2, and 3 where the roll has no free row. */
+uint32_t snaldrek_close(uint8_t *ledger, size_t ledger_len, const uint8_t *table, size_t table_len,
+                        uint8_t *roll, size_t roll_len);
+
+/* Writes the tree's root as it stands now, whether or not a block was closed.
+   51 1: the ledger's length. 51 2: the root's. */
+uint32_t snaldrek_root(const uint8_t *ledger, size_t ledger_len, uint8_t *root, size_t root_len);
+
+/* ---- A bag ---- */
+
+/* Judges a seal's body alone, with the scanner's calibration: the pull is raw times gain, plus
+   offset, each rounded once. *pull is written only where the answer is 0.
+   20: the body is broken. Then 21 to 23. */
+uint32_t snaldrek_seal(const uint8_t *body, size_t body_len, double gain, double offset, double *pull);
+
+/* Judges a whole bag: its layout, its seal, and then its cases in order, each on the ledger that the
+   one before it left. A refused case does not stop the next, and is no refusal of the bag: the answer
+   is then 0, and the report has each case's own.
+   51 1: the ledger's length. 51 3: the report's. 20: the layout is broken. 21 to 23: the seal. On
+   any of them no case was judged, and the report is not written. */
+uint32_t snaldrek_bag(const uint8_t *bag, size_t bag_len, double gain, double offset,
+                      uint8_t *ledger, size_t ledger_len, uint8_t *table, size_t table_len,
+                      const uint8_t *roll, size_t roll_len, uint8_t *report, size_t report_len);
+
+/* ---- The shift's books ---- */
+
+/* Counts one answer: seen, and passed where it is 0, otherwise refused. A tally of zero bytes is empty.
+   51 4: the tally's length. 52: seen, or the count that would be raised, is at its most. */
+uint32_t snaldrek_tally(uint8_t *tally, size_t tally_len, uint32_t answer);
+
+/* Writes row number `row` (from 0) of the day list: the seal's own number, and an answer as the calls
+   above return it. The list has list_len / SNALDREK_DAY_ROW_BYTES rows, and the others stay.
+   53: there is no such row. */
+uint32_t snaldrek_day(uint8_t *list, size_t list_len, size_t row, uint32_t seal, uint32_t answer);
+
+/* ---- What the buffers say ---- */
+
+static inline uint32_t snaldrek_read_32(const uint8_t *bytes)
+{
+    return (uint32_t)bytes[0] | (uint32_t)bytes[1] << 8 | (uint32_t)bytes[2] << 16 | (uint32_t)bytes[3] << 24;
+}
+
+static inline uint64_t snaldrek_read_64(const uint8_t *bytes)
+{
+    return (uint64_t)snaldrek_read_32(bytes) | (uint64_t)snaldrek_read_32(bytes + 4) << 32;
+}
+
+/* A ledger: nullifier count in 8 bytes, anchor count in 8, pool in 8 (two's complement), leaf count in
+   4, then the tree record's 30 nodes. */
+static inline uint64_t snaldrek_ledger_spent(const uint8_t *ledger) { return snaldrek_read_64(ledger); }
+static inline uint64_t snaldrek_ledger_anchors(const uint8_t *ledger) { return snaldrek_read_64(ledger + 8); }
+static inline uint32_t snaldrek_ledger_leaves(const uint8_t *ledger) { return snaldrek_read_32(ledger + 24); }
+
+/* What has entered the pool less what has left it. It may be below zero. */
+static inline int64_t snaldrek_ledger_pool(const uint8_t *ledger)
+{
+    uint64_t bits = snaldrek_read_64(ledger + 16);
+    return bits <= (uint64_t)INT64_MAX ? (int64_t)bits : -1 - (int64_t)(UINT64_MAX - bits);
+}
+
+/* A report: the number of cases in 4 bytes, then seven answers of 4 bytes, unused ones zero. */
+static inline uint32_t snaldrek_report_cases(const uint8_t *report) { return snaldrek_read_32(report); }
+
+/* The answer of case number `index`, from 0 and below snaldrek_report_cases. */
+static inline uint32_t snaldrek_report_answer(const uint8_t *report, uint32_t index)
+{
+    return snaldrek_read_32(report + 4 + 4 * (size_t)index);
+}
+
+/* A tally: three counts of 4 bytes. */
+static inline uint32_t snaldrek_tally_seen(const uint8_t *tally) { return snaldrek_read_32(tally); }
+static inline uint32_t snaldrek_tally_passed(const uint8_t *tally) { return snaldrek_read_32(tally + 4); }
+static inline uint32_t snaldrek_tally_refused(const uint8_t *tally) { return snaldrek_read_32(tally + 8); }
+
+/* A row of the day list: the seal's number in 4 bytes, the answer's number in one, its place in one. */
+static inline uint32_t snaldrek_day_seal(const uint8_t *row) { return snaldrek_read_32(row); }
+static inline uint32_t snaldrek_day_answer(const uint8_t *row) { return (uint32_t)row[4] | (uint32_t)row[5] << 8; }
+
+#ifdef __cplusplus
+}
+#endif
+
+#endif

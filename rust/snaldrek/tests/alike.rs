@@ -1,0 +1,202 @@
+//! Random shifts from the second judge's maker, with every kind of case, bend
+//! and damage, played on both judges: after each entry the answers are alike,
+//! and so is every byte of every buffer.
+
+mod common;
+
+use common::{assert_alike, entries, named, plain, same_ledger};
+use second::judge::judge;
+use second::ledger::Ledger as PlainLedger;
+use second::maker::make_tape;
+use second::random::Random;
+use second::seal::{judge_seal as plain_judge_seal, Calibration as PlainCalibration, Seal};
+use second::tape::Player;
+use snaldrek::{calls, judge_seal, Calibration, Ledger, Refusal, LEDGER_BYTES};
+
+const ENTRIES: usize = 700;
+
+/// Both judges' ledgers, how many cases they have judged, and the dice.
+struct Pair {
+    ours: Ledger,
+    theirs: PlainLedger,
+    cases: usize,
+    random: Random,
+}
+
+impl Pair {
+    /// Plays an entry on both.
+    fn play(&mut self, kind: u8, body: &[u8]) {
+        match kind {
+            b'O' => self.open(body),
+            b'C' => {
+                self.judge_damaged(body);
+                self.judge(body);
+            }
+            b'B' => self.close(),
+            b'S' => play_seal(body),
+            b'L' => assert_eq!(self.ours.root(), self.theirs.tree.root(), "the root"),
+            b'P' => self.plant(body),
+            _ => (),
+        }
+    }
+
+    /// The buffers are first filled with other bytes, to see which are written.
+    fn open(&mut self, body: &[u8]) {
+        let [table, roll] = [0, 4].map(|at| number_at(body, at));
+        let (theirs, expected) = PlainLedger::open(vec![7; table], vec![7; roll]);
+        let (mut bytes, mut roll) = ([7; LEDGER_BYTES], vec![7; roll]);
+        assert_eq!(
+            calls::open(&mut bytes, &mut roll),
+            common::code(expected),
+            "opening"
+        );
+        self.ours = Ledger::from_parts(bytes, vec![7; table], roll);
+        self.theirs = theirs;
+    }
+
+    fn judge(&mut self, file: &[u8]) {
+        let before = self.ours.clone();
+        let expected = judge(&mut self.theirs, file);
+        let answer = self.ours.judge(file);
+        assert_eq!(plain(answer), expected, "a case");
+        assert_eq!(answer, named(expected), "a case");
+        assert!(
+            answer.is_ok() || self.ours == before,
+            "a refusal changes no byte"
+        );
+        self.cases += 1;
+    }
+
+    /// The case with one bit turned over, on copies of the ledgers.
+    fn judge_damaged(&mut self, file: &[u8]) {
+        let mut file = file.to_vec();
+        if file.is_empty() {
+            return;
+        }
+        self.random.flip_bit(&mut file);
+        let (mut ours, mut theirs) = (self.ours.clone(), self.theirs.clone());
+        assert_eq!(
+            plain(ours.judge(&file)),
+            judge(&mut theirs, &file),
+            "a damaged case"
+        );
+        assert_alike(&ours, &theirs, "after a damaged case");
+        self.cases += 1;
+    }
+
+    fn close(&mut self) {
+        let before = self.ours.clone();
+        let answer = self.ours.close();
+        assert_eq!(plain(answer), self.theirs.close_block(), "closing a block");
+        assert!(
+            answer.is_ok() || self.ours == before,
+            "a refusal changes no byte"
+        );
+    }
+
+    fn plant(&mut self, body: &[u8]) {
+        let mut player = Player::new();
+        player.play(b'P', body).expect("a sound plant");
+        self.theirs = player.ledger;
+        self.ours = same_ledger(&self.theirs);
+    }
+}
+
+fn number_at(body: &[u8], at: usize) -> usize {
+    u32::from_le_bytes(body[at..at + 4].try_into().expect("four bytes")) as usize
+}
+
+fn float_at(body: &[u8], at: usize) -> f64 {
+    f64::from_le_bytes(body[at..at + 8].try_into().expect("eight bytes"))
+}
+
+/// The same pull to the bit, or the same refusal and the pull untouched.
+fn play_seal(body: &[u8]) {
+    let (gain, offset, seal) = (float_at(body, 0), float_at(body, 8), &body[16..]);
+    let calibration = Calibration { gain, offset };
+    let ours = judge_seal(seal, calibration);
+    let theirs = match Seal::read(seal) {
+        None => Err(second::answer::Answer::new(20, 0)),
+        Some(seal) => plain_judge_seal(PlainCalibration { gain, offset }, seal),
+    };
+    match (ours, theirs) {
+        (Ok(pull), Ok(expected)) => assert_eq!(pull.to_bits(), expected.to_bits(), "the pull"),
+        (ours, theirs) => {
+            assert_eq!(
+                plain(ours.map(|_| ())),
+                theirs.expect_err("a refusal"),
+                "a seal"
+            );
+            let mut pull = 0.25;
+            calls::seal(seal, gain, offset, &mut pull);
+            assert_eq!(pull, 0.25, "a refusal hands out no pull");
+        }
+    }
+}
+
+/// Plays the tape of a seed, and gives the number of its cases.
+fn play_tape(seed: u64) -> usize {
+    let tape = make_tape(seed, ENTRIES);
+    let theirs = PlainLedger::zeroed(Vec::new(), Vec::new());
+    let mut pair = Pair {
+        ours: same_ledger(&theirs),
+        theirs,
+        cases: 0,
+        random: Random::new(seed),
+    };
+    for (index, (kind, body)) in entries(&tape.bytes).into_iter().enumerate().take(ENTRIES) {
+        pair.play(kind, body);
+        let when = format!("seed {seed}, after entry {index} of kind {}", kind as char);
+        assert_alike(&pair.ours, &pair.theirs, &when);
+    }
+    pair.cases
+}
+
+fn play_tapes(seeds: std::ops::Range<u64>) {
+    let cases: usize = seeds.map(play_tape).sum();
+    println!("{cases} cases judged by both");
+    assert!(cases > 1_000, "only {cases} cases were judged");
+}
+
+#[test]
+fn tapes_are_alike() {
+    play_tapes(2_000..2_003);
+}
+
+#[test]
+fn more_tapes_are_alike_at_the_same_time() {
+    play_tapes(3_000..3_003);
+}
+
+/// Bytes that say nothing at all, as a case, a seal and a ledger.
+#[test]
+fn noise_is_refused_alike() {
+    let mut random = Random::new(17);
+    for _ in 0..500 {
+        let mut theirs =
+            PlainLedger::zeroed(vec![0; random.below(200)], vec![0; random.below(200)]);
+        random.fill(&mut theirs.table);
+        random.fill(&mut theirs.roll);
+        theirs.spent = random.u64() >> random.below(64);
+        theirs.anchors = random.u64() >> random.below(64);
+        theirs.pool = random.u64() as i64;
+        let mut ours = same_ledger(&theirs);
+        let mut file = vec![0; *random.pick(&[0, 4_209, 4_210, 4_211])];
+        random.fill(&mut file);
+        assert_eq!(plain(ours.judge(&file)), judge(&mut theirs, &file));
+        assert_eq!(plain(ours.close()), theirs.close_block());
+        assert_alike(&ours, &theirs, "after noise");
+    }
+}
+
+/// A fresh ledger of the wrapper is the second judge's.
+#[test]
+fn opening_is_alike() {
+    for (table, roll) in [(0, 1), (2, 1), (2_048, 1_024)] {
+        let ours = Ledger::open(table, roll).expect("a roll with rows");
+        let (theirs, _) = PlainLedger::open(vec![0; 32 * table], vec![0; 32 * roll]);
+        assert_alike(&ours, &theirs, "opened");
+        assert_eq!(ours.root(), theirs.tree.root());
+    }
+    assert_eq!(Ledger::open(8, 0), Err(Refusal::WrongLength));
+}

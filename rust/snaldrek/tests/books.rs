@@ -1,0 +1,122 @@
+//! The tally and the day list against plain counts.
+
+use second::random::Random;
+use snaldrek::{calls, Answer, DayList, DayRow, Pair, Refusal, Tally};
+
+/// A tally as three numbers.
+fn counts(tally: &Tally) -> [u32; 3] {
+    [tally.seen(), tally.passed(), tally.refused()]
+}
+
+fn tally_of(counts: [u32; 3]) -> Tally {
+    let bytes: Vec<u8> = counts
+        .iter()
+        .flat_map(|count| count.to_le_bytes())
+        .collect();
+    Tally::from_bytes(bytes.try_into().expect("twelve bytes"))
+}
+
+/// What the rules say of one answer more.
+fn counted([seen, passed, refused]: [u32; 3], answer: Answer) -> Option<[u32; 3]> {
+    let seen = seen.checked_add(1)?;
+    match answer {
+        Ok(()) => Some([seen, passed.checked_add(1)?, refused]),
+        Err(_) => Some([seen, passed, refused.checked_add(1)?]),
+    }
+}
+
+#[test]
+fn a_tally_counts_as_the_rules_say() {
+    let mut random = Random::new(1);
+    let near = [0, 1, 7, u32::MAX - 1, u32::MAX];
+    let answers = [
+        Ok(()),
+        Err(Refusal::AlreadySpent(Pair::First)),
+        Err(Refusal::NoFreeRow),
+    ];
+    for _ in 0..2_000 {
+        let before = [0; 3].map(|_| *random.pick(&near));
+        let answer = *random.pick(&answers);
+        let mut tally = tally_of(before);
+        match counted(before, answer) {
+            Some(after) => {
+                assert_eq!(tally.count(answer), Ok(()));
+                assert_eq!(counts(&tally), after);
+            }
+            None => {
+                assert_eq!(tally.count(answer), Err(Refusal::TallyFull));
+                assert_eq!(counts(&tally), before);
+            }
+        }
+    }
+}
+
+#[test]
+fn a_shift_is_counted() {
+    let mut tally = Tally::new();
+    for number in 0..1_000 {
+        let answer = if number % 3 == 0 {
+            Ok(())
+        } else {
+            Err(Refusal::PullOutside)
+        };
+        assert_eq!(tally.count(answer), Ok(()));
+    }
+    assert_eq!(counts(&tally), [1_000, 334, 666]);
+    assert_eq!(tally_of([1_000, 334, 666]).as_bytes(), tally.as_bytes());
+}
+
+#[test]
+fn entering_a_row_changes_that_row_alone() {
+    let mut random = Random::new(2);
+    let mut list = DayList::with_rows(40);
+    let mut rows = vec![
+        DayRow {
+            seal: 0,
+            answer: Ok(())
+        };
+        40
+    ];
+    for _ in 0..2_000 {
+        let row = random.below(44);
+        let seal = random.u64() as u32;
+        let answer = *random.pick(&[
+            Ok(()),
+            Err(Refusal::RhoWrong(Pair::Second)),
+            Err(Refusal::LedgerDamaged),
+        ]);
+        let expected = if row < 40 {
+            Ok(())
+        } else {
+            Err(Refusal::NoSuchRow)
+        };
+        assert_eq!(list.enter(row, seal, answer), expected);
+        if row < 40 {
+            rows[row] = DayRow { seal, answer };
+        }
+        let found: Vec<DayRow> = (0..list.rows()).filter_map(|row| list.row(row)).collect();
+        assert_eq!(found, rows);
+    }
+    assert_eq!(list.row(40), None);
+}
+
+#[test]
+fn rows_past_any_list_are_refused() {
+    for length in [0, 5, 6, 11, 12] {
+        let mut bytes = vec![9; length];
+        for row in [length / 6, 1 << 32, usize::MAX / 6 + 1, usize::MAX] {
+            assert_eq!(calls::day(&mut bytes, row, 1, 264), 53);
+        }
+        assert!(bytes.iter().all(|byte| *byte == 9));
+    }
+    let mut list = DayList::from_bytes(vec![9; 11]);
+    assert_eq!(
+        list.enter(0, 0x0403_0201, Err(Refusal::AlreadySpent(Pair::Second))),
+        Ok(())
+    );
+    assert_eq!(
+        list.as_bytes(),
+        [1, 2, 3, 4, 8, 2, 9, 9, 9, 9, 9],
+        "spare bytes stay"
+    );
+}

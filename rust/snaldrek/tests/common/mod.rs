@@ -1,0 +1,72 @@
+//! Both judges side by side: a ledger of the wrapper, and the second judge's.
+#![allow(dead_code)]
+
+use second::answer::Answer as Plain;
+use second::ledger::Ledger as PlainLedger;
+use second::tape::plant_body;
+use snaldrek::{Answer, Ledger, Refusal, LEDGER_BYTES};
+
+/// An answer of the wrapper as a number and a place.
+pub fn plain(answer: Answer) -> Plain {
+    match answer {
+        Ok(()) => Plain::PASSED,
+        Err(refusal) => Plain::new(refusal.number(), refusal.place()),
+    }
+}
+
+/// The code of an answer of the second judge.
+pub fn code(answer: Plain) -> u32 {
+    u32::from(answer.number) + 256 * u32::from(answer.place)
+}
+
+/// An answer of the second judge as the wrapper would give it.
+pub fn named(answer: Plain) -> Answer {
+    Refusal::answer(code(answer))
+}
+
+/// The second judge's ledger in the library's bytes: a plant's body starts
+/// with the same counts, pool and record.
+pub fn ledger_bytes(ledger: &PlainLedger) -> [u8; LEDGER_BYTES] {
+    plant_body(ledger)[..LEDGER_BYTES]
+        .try_into()
+        .expect("a plant's body is longer")
+}
+
+/// The second judge's ledger as one of the wrapper.
+pub fn same_ledger(ledger: &PlainLedger) -> Ledger {
+    Ledger::from_parts(
+        ledger_bytes(ledger),
+        ledger.table.clone(),
+        ledger.roll.clone(),
+    )
+}
+
+/// Holds every byte of the two ledgers to each other.
+pub fn assert_alike(ours: &Ledger, theirs: &PlainLedger, when: &str) {
+    let (bytes, table, roll) = ours.parts();
+    assert!(
+        bytes[..] == ledger_bytes(theirs),
+        "the ledger's bytes, {when}"
+    );
+    assert!(table == theirs.table, "the table's bytes, {when}");
+    assert!(roll == theirs.roll, "the roll's bytes, {when}");
+    assert_eq!(ours.spent(), theirs.spent, "{when}");
+    assert_eq!(ours.anchors(), theirs.anchors, "{when}");
+    assert_eq!(ours.pool(), theirs.pool, "{when}");
+    assert_eq!(ours.leaves(), theirs.tree.count(), "{when}");
+}
+
+/// The entries of a tape that was made sound: kind and body.
+pub fn entries(tape: &[u8]) -> Vec<(u8, &[u8])> {
+    let mut found = Vec::new();
+    let mut rest = tape;
+    while let [kind, a, b, c, d, after @ ..] = rest {
+        let length = u32::from_le_bytes([*a, *b, *c, *d]) as usize;
+        let Some((body, next)) = after.split_at_checked(length) else {
+            break;
+        };
+        found.push((*kind, body));
+        rest = next;
+    }
+    found
+}

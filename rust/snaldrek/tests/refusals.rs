@@ -1,0 +1,55 @@
+//! Every row of the table of refusals has its variant, and the variant its
+//! words.
+
+use snaldrek::Refusal;
+
+/// The rows of docs/REFUSALS.md: number, place, words. Only programs play
+/// tapes, so 50 is left out.
+fn rows() -> Vec<(u32, u32, &'static str)> {
+    let table = include_str!("../../../docs/REFUSALS.md");
+    let rows = table.lines().filter_map(|line| {
+        let mut cells = line.strip_prefix("| ")?.strip_suffix(" |")?.split(" | ");
+        let number = cells.next()?.parse().ok()?;
+        Some((number, cells.next()?.parse().ok()?, cells.next()?))
+    });
+    rows.filter(|(number, _, _)| *number != 0 && *number != 50)
+        .collect()
+}
+
+#[test]
+fn each_row_has_its_variant_and_words() {
+    let rows = rows();
+    assert_eq!(rows.len(), 36);
+    for (number, place, words) in rows {
+        let code = number + 256 * place;
+        let refusal = Refusal::from_code(code).expect("a refusal");
+        assert!(
+            !matches!(refusal, Refusal::Unknown(_)),
+            "{number} {place} has no variant"
+        );
+        assert_eq!(
+            (u32::from(refusal.number()), u32::from(refusal.place())),
+            (number, place)
+        );
+        assert_eq!(Refusal::code_of(Err(refusal)), code);
+        assert!(refusal.to_string().starts_with(words), "{refusal}");
+    }
+}
+
+#[test]
+fn what_has_no_row_is_still_a_refusal() {
+    let known: Vec<u32> = rows()
+        .iter()
+        .map(|(number, place, _)| number + 256 * place)
+        .collect();
+    for code in (1..0x1000).chain([1 << 16, 1 << 24 | 8, u32::MAX]) {
+        let refusal = Refusal::from_code(code).expect("only 0 is a yes");
+        assert_eq!(
+            matches!(refusal, Refusal::Unknown(_)),
+            !known.contains(&code),
+            "{code:#x}"
+        );
+        assert_eq!(Refusal::code_of(Err(refusal)), code);
+    }
+    assert_eq!(Refusal::answer(0), Ok(()));
+}

@@ -1,0 +1,54 @@
+/*
+ * The smallest host in C: judges one bag on a fresh ledger, as the scanner program does, and prints
+ * the same lines.
+ *
+ *     judge_bag [FILE]        standard input where no FILE is named
+ */
+#include <inttypes.h>
+#include <stdio.h>
+
+#include "snaldrek.h"
+
+/* All memory is the host's. One byte more than the longest bag, so that a longer one is seen to be so. */
+static uint8_t bag[SNALDREK_BAG_MAX_BYTES + 1];
+static uint8_t ledger[SNALDREK_LEDGER_BYTES];
+static uint8_t table[SNALDREK_TABLE_MAX_BYTES];
+static uint8_t roll[SNALDREK_ROLL_MAX_BYTES];
+static uint8_t report[SNALDREK_REPORT_BYTES];
+
+static void print_answer(const char *what, uint32_t answer)
+{
+    printf("%s %u %u\n", what, SNALDREK_NUMBER(answer), SNALDREK_PLACE(answer));
+}
+
+static void print_cases_and_ledger(void)
+{
+    uint32_t i;
+    for (i = 0; i < snaldrek_report_cases(report); i++)
+        print_answer("case", snaldrek_report_answer(report, i));
+    printf("ledger spent %" PRIu64 " leaves %" PRIu32 " pool %" PRId64 "\n", snaldrek_ledger_spent(ledger),
+           snaldrek_ledger_leaves(ledger), snaldrek_ledger_pool(ledger));
+}
+
+int main(int argc, char **argv)
+{
+    FILE *in = argc > 1 ? fopen(argv[1], "rb") : stdin;
+    size_t length;
+    uint32_t answer;
+    if (!in) {
+        perror(argv[1]);
+        return 2;
+    }
+    length = fread(bag, 1, sizeof bag, in);
+    answer = snaldrek_open(ledger, sizeof ledger, roll, sizeof roll);
+    if (answer != SNALDREK_ACCEPTED) {
+        print_answer("open", answer);
+        return 1;
+    }
+    answer = snaldrek_bag(bag, length, 1.0, 0.0, ledger, sizeof ledger, table, sizeof table, roll, sizeof roll,
+                          report, sizeof report);
+    print_answer(SNALDREK_NUMBER(answer) == SNALDREK_LAYOUT_BROKEN ? "bag" : "seal", answer);
+    if (answer == SNALDREK_ACCEPTED)
+        print_cases_and_ledger();
+    return 0;
+}

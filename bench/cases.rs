@@ -1,0 +1,133 @@
+// Prepares the cases of the bench, as a tape: a ledger of FILL nullifiers and, on it, COUNT cases. Half of
+// them are accepted, each with two old notes of value. The others are refused, as many of each kind of answer
+// as of any other, mixed with the accepted ones. The refusals of the ledger itself, 2 and 3, come last, each
+// on a ledger of its own. The same numbers give the same tape.
+//   cases FILL COUNT SEED >TAPE
+use std::io::Write;
+
+use second::answer::Answer;
+use second::bytes::Bytes32;
+use second::case::{Amount, Case};
+use second::judge::{first_refusal, RULES};
+use second::ledger::Ledger;
+use second::maker::bends::{Bench, Bend, BENDS};
+use second::maker::purse::Purse;
+use second::random::Random;
+use second::tape::{entry, plant_body};
+use second::tree::{Record, Tree};
+
+const ROLL: usize = 16;
+const VALUES: [u64; 8] = [1, 10_000, 7, 1 << 40, 2_100_000_000_000_000, 12_345, u64::MAX, 3];
+
+struct Scene {
+    random: Random,
+    purse: Purse,
+    ledger: Ledger,
+}
+
+impl Scene {
+    fn new(fill: usize, seed: u64) -> Scene {
+        let mut random = Random::new(seed);
+        let mut purse = Purse::from_elsewhere(&mut random, &VALUES.map(Amount));
+        let mut rows: Vec<Bytes32> = (0..fill.min(2)).filter_map(|_| purse.take_spent(&mut random)).collect();
+        while rows.len() < fill {
+            rows.push(random.bytes());
+        }
+        rows.sort();
+        let mut roll: Vec<Bytes32> = purse.anchors().iter().map(|anchor| anchor.root).collect();
+        while roll.len() < ROLL {
+            roll.push(random.bytes());
+        }
+        random.shuffle(&mut roll);
+        let ledger = ledger_of(&mut random, &rows, &roll);
+        Scene { random, purse, ledger }
+    }
+
+    // A case that is accepted, and spends two notes of value.
+    fn good(&mut self) -> Case {
+        loop {
+            let case = self.purse.good_case(&mut self.random);
+            if case.old.iter().all(|note| note.value != Amount::ZERO) {
+                return case;
+            }
+        }
+    }
+
+    // A case with this answer.
+    fn case_for(&mut self, answer: Answer) -> Case {
+        let bends: Vec<&Bend> = BENDS.iter().filter(|bend| bend.answer == answer).collect();
+        loop {
+            let good = self.good();
+            if answer.is_pass() {
+                return good;
+            }
+            let bend = *self.random.pick(&bends);
+            let mut bench = Bench { random: &mut self.random, purse: &self.purse };
+            if let Some(case) = (bend.apply)(&mut bench, good) {
+                if first_refusal(&self.ledger, &case) == Some(answer) {
+                    return case;
+                }
+            }
+        }
+    }
+}
+
+// A sound ledger of these rows, with all the room there may be.
+fn ledger_of(random: &mut Random, rows: &[Bytes32], roll: &[Bytes32]) -> Ledger {
+    let record = Record { count: rows.len() as u32, nodes: std::array::from_fn(|_| random.bytes()) };
+    let mut ledger = Ledger {
+        table: rows.concat(),
+        roll: roll.concat(),
+        spent: rows.len() as u64,
+        anchors: roll.len() as u64,
+        pool: 0,
+        tree: Tree::planted(record),
+    };
+    ledger.table.resize(2_048 * 32, 0);
+    ledger.roll.resize(1_024 * 32, 0);
+    ledger
+}
+
+// The answers of cases on a sound ledger with room: all but 1, 2 and 3, and no 8 where nothing is spent.
+fn kinds(fill: usize) -> Vec<Answer> {
+    let answers = RULES.iter().map(|rule| rule.answer);
+    answers.filter(|answer| answer.number > 3 && (fill > 0 || answer.number != 8)).collect()
+}
+
+fn put(out: &mut impl Write, kind: u8, body: &[u8]) {
+    out.write_all(&entry(kind, body)).expect("the tape is written");
+}
+
+fn main() {
+    let numbers: Vec<u64> = std::env::args().skip(1).map(|word| word.parse().expect("a number")).collect();
+    let [fill, count, seed] = numbers[..] else { panic!("cases FILL COUNT SEED") };
+    let (fill, count) = (fill as usize, count as usize);
+    let mut scene = Scene::new(fill, seed);
+    let kinds = kinds(fill);
+    let share = count / 2 / (kinds.len() + 3);
+    let mut files: Vec<Vec<u8>> = Vec::new();
+    for kind in &kinds {
+        files.extend((0..share).map(|_| scene.case_for(*kind).to_bytes()));
+    }
+    for index in 0..share {
+        let mut file = scene.good().to_bytes();
+        file.resize(4_209 + 2 * (index % 2), 0);
+        files.push(file);
+    }
+    while files.len() < count - 2 * share {
+        files.push(scene.case_for(Answer::PASSED).to_bytes());
+    }
+    scene.random.shuffle(&mut files);
+
+    let mut out = std::io::BufWriter::new(std::io::stdout().lock());
+    put(&mut out, b'P', &plant_body(&scene.ledger));
+    files.iter().for_each(|file| put(&mut out, b'C', file));
+    let mut damaged = scene.ledger.clone();
+    damaged.pool = i64::MIN;
+    let mut full = scene.ledger.clone();
+    full.table.truncate(32 * fill);
+    for ledger in [damaged, full] {
+        put(&mut out, b'P', &plant_body(&ledger));
+        (0..share).for_each(|_| put(&mut out, b'C', &scene.good().to_bytes()));
+    }
+}

@@ -1,0 +1,91 @@
+#!/usr/bin/env python3
+"""Draws what a case costs against how full the nullifier table is.
+
+plot.py FIGURES.TSV >SVG : the figures that bench/judge.sh left. Nothing but Python is needed.
+"""
+import csv
+import sys
+
+HASHING = 74 * 3_553  # instructions of the 74 proved compressions that a case with two old notes of value takes
+WIDTH, HEIGHT = 760, 440
+LEFT, RIGHT, TOP, BOTTOM = 80, 190, 44, 56
+LINES = (  # answer, column, what the line is called, colour, dashes
+    ((0, 0), "proved", "accepted: proved", "#0b6e4f", ""),
+    ((0, 0), "plain", "accepted: plain Rust", "#b5541c", ""),
+    ((0, 0), "words", "accepted: tuned Rust", "#b5541c", "6 4"),
+    ((7, 0), "proved", "refused by 7: proved", "#2f8f74", "2 3"),
+    ((7, 0), "plain", "refused by 7: plain", "#c46a36", "2 3"),
+)
+
+
+def read(path):
+    with open(path) as file:
+        rows = list(csv.DictReader(file, delimiter="\t"))
+    unit = [name for name in rows[0] if name in ("instructions", "nanoseconds")][0]
+    lines = []
+    for answer, column, name, colour, dashes in LINES:
+        points = sorted((int(row["fill"]), float(row[column])) for row in rows if (int(row["number"]), int(row["place"])) == answer)
+        lines.append((name, colour, dashes, points))
+    return unit, lines
+
+
+def scales(lines):
+    """From rows and costs to places in the picture, and the marks on the axis of the costs."""
+    most_rows = max(x for *_, points in lines for x, _ in points)
+    most_cost = max(y for *_, points in lines for _, y in points)
+    step = next(s for s in (10_000, 20_000, 50_000, 100_000, 200_000) if most_cost / s <= 7)
+    top = (int(most_cost / step) + 1) * step
+    across = lambda x: LEFT + x / most_rows * (WIDTH - LEFT - RIGHT)
+    up = lambda y: HEIGHT - BOTTOM - y / top * (HEIGHT - TOP - BOTTOM)
+    return across, up, range(0, top + 1, step), most_rows
+
+
+def text(x, y, words, more=""):
+    print(f'<text x="{x:.1f}" y="{y:.1f}" {more}>{words}</text>')
+
+
+def axes(across, up, marks, most_rows, unit):
+    for cost in marks:
+        print(f'<line x1="{LEFT}" x2="{WIDTH - RIGHT}" y1="{up(cost):.1f}" y2="{up(cost):.1f}" stroke="#ddd"/>')
+        text(LEFT - 8, up(cost) + 4, f"{cost:,}", 'text-anchor="end"')
+    for rows in (0, 500, 1000, 1500, most_rows):
+        text(across(rows), HEIGHT - BOTTOM + 20, f"{rows:,}", 'text-anchor="middle"')
+    text((LEFT + WIDTH - RIGHT) / 2, HEIGHT - 12, "nullifiers in the table", 'text-anchor="middle"')
+    text(LEFT, TOP - 20, f"{unit} of one case", 'font-weight="bold"')
+
+
+def hashing(up):
+    """What no judge of these hashes can be below."""
+    print(f'<line x1="{LEFT}" x2="{WIDTH - RIGHT}" y1="{up(HASHING):.1f}" y2="{up(HASHING):.1f}" stroke="#888" stroke-dasharray="3 4"/>')
+    text(WIDTH - RIGHT + 10, up(HASHING) + 4, "74 proved compressions", 'fill="#555"')
+
+
+def labels(lines, up):
+    """The height of each line's name: at its end, but never on the name above it."""
+    low = {}
+    last = 0
+    for name, _, _, points in sorted(lines, key=lambda line: -line[3][-1][1]):
+        last = low[name] = max(up(points[-1][1]) + 4, last + 16)
+    return low
+
+
+def main():
+    unit, lines = read(sys.argv[1])
+    across, up, marks, most_rows = scales(lines)
+    print(f'<svg xmlns="http://www.w3.org/2000/svg" width="{WIDTH}" height="{HEIGHT}" viewBox="0 0 {WIDTH} {HEIGHT}" '
+          'font-family="sans-serif" font-size="13">')
+    print(f'<rect width="{WIDTH}" height="{HEIGHT}" fill="white"/>')
+    axes(across, up, marks, most_rows, unit)
+    if unit == "instructions":
+        hashing(up)
+    heights = labels(lines, up)
+    for name, colour, dashes, points in lines:
+        path = " ".join(f"{across(x):.1f},{up(y):.1f}" for x, y in points)
+        print(f'<polyline points="{path}" fill="none" stroke="{colour}" stroke-width="2" stroke-dasharray="{dashes}"/>')
+        for x, y in points:
+            print(f'<circle cx="{across(x):.1f}" cy="{up(y):.1f}" r="3" fill="{colour}"/>')
+        text(WIDTH - RIGHT + 10, heights[name], name, f'fill="{colour}"')
+    print("</svg>")
+
+
+main()

@@ -232,14 +232,6 @@ impl Pair {
             Pair::Second => 2,
         }
     }
-
-    /// As words say it: the first, the second.
-    fn ordinal(self) -> &'static str {
-        match self {
-            Pair::First => "first",
-            Pair::Second => "second",
-        }
-    }
 }
 
 impl Buffer {
@@ -261,111 +253,59 @@ impl Buffer {
             Buffer::Tally => 4,
         }
     }
-
-    /// Its name, and how many bytes it must have.
-    fn name_and_bytes(self) -> (&'static str, usize) {
-        match self {
-            Buffer::Ledger => ("ledger", 988),
-            Buffer::Root => ("root", 32),
-            Buffer::Report => ("report", 32),
-            Buffer::Tally => ("tally", 12),
-        }
-    }
 }
 
-/// The words of docs/REFUSALS.md; those of 1 and 3 also say what they mean
-/// where no case was judged.
+/// Number, place and words of each refusal, as docs/REFUSALS.md has them. Those
+/// of 1 and 3 also say what they mean where no case was judged.
+#[rustfmt::skip]
+const WORDS: [(u8, u8, &str); 36] = [
+    (1, 0, "the case has not 4,210 bytes (opening: the roll has no row)"),
+    (2, 0, "the ledger is damaged"),
+    (3, 0, "fewer than two nullifier rows are free (closing: no roll row is)"),
+    (4, 0, "both public values are nonzero"),
+    (5, 1, "the public value that enters the pool is more than all money"),
+    (5, 2, "the public value that leaves the pool is more than all money"),
+    (6, 0, "the anchor is not on the roll"),
+    (7, 0, "the case's two nullifiers are equal"),
+    (8, 1, "the first nullifier is already spent"),
+    (8, 2, "the second nullifier is already spent"),
+    (9, 1, "old note 1 has a key of more than 252 bits or a position outside the tree"),
+    (9, 2, "old note 2 has a key of more than 252 bits or a position outside the tree"),
+    (9, 3, "phi has more than 252 bits"),
+    (10, 1, "old note 1 has a value, and its path does not lead to the anchor"),
+    (10, 2, "old note 2 has a value, and its path does not lead to the anchor"),
+    (11, 0, "what goes in and what comes out do not balance"),
+    (12, 1, "the first nullifier is not that of old note 1"),
+    (12, 2, "the second nullifier is not that of old note 2"),
+    (13, 1, "old note 1's address is not that of its key"),
+    (13, 2, "old note 2's address is not that of its key"),
+    (14, 1, "the first tag is wrong"),
+    (14, 2, "the second tag is wrong"),
+    (15, 1, "new note 1's rho is wrong"),
+    (15, 2, "new note 2's rho is wrong"),
+    (16, 1, "the first commitment is not that of new note 1"),
+    (16, 2, "the second commitment is not that of new note 2"),
+    (20, 0, "the bag's layout is broken"),
+    (21, 0, "a limit of the gate is no finite number, or low is above high"),
+    (22, 0, "the pull is no finite number"),
+    (23, 0, "the pull is outside the gate"),
+    (51, 1, "the ledger's buffer has not 988 bytes"),
+    (51, 2, "the root's buffer has not 32 bytes"),
+    (51, 3, "the report's buffer has not 32 bytes"),
+    (51, 4, "the tally's buffer has not 12 bytes"),
+    (52, 0, "the tally is full: seen, or the count that would be raised, is at its most"),
+    (53, 0, "the day list has no such row"),
+];
+
 impl fmt::Display for Refusal {
     fn fmt(&self, out: &mut fmt::Formatter<'_>) -> fmt::Result {
-        match self {
-            Refusal::WrongLength => write!(
-                out,
-                "the case has not 4,210 bytes (opening: the roll has no row)"
-            ),
-            Refusal::LedgerDamaged => write!(out, "the ledger is damaged"),
-            Refusal::NoFreeRow => write!(
-                out,
-                "fewer than two nullifier rows are free (closing: no roll row is)"
-            ),
-            Refusal::AnchorUnknown => write!(out, "the anchor is not on the roll"),
-            Refusal::NullifiersEqual => write!(out, "the case's two nullifiers are equal"),
-            Refusal::AlreadySpent(which) => {
-                write!(out, "the {} nullifier is already spent", which.ordinal())
-            }
-            Refusal::LayoutBroken => write!(out, "the bag's layout is broken"),
-            Refusal::GateBroken => write!(
-                out,
-                "a limit of the gate is no finite number, or low is above high"
-            ),
-            Refusal::PullNotFinite => write!(out, "the pull is no finite number"),
-            Refusal::PullOutside => write!(out, "the pull is outside the gate"),
-            Refusal::WrongBuffer(buffer) => {
-                let (name, bytes) = buffer.name_and_bytes();
-                write!(out, "the {name}'s buffer has not {bytes} bytes")
-            }
-            Refusal::TallyFull => {
-                write!(
-                    out,
-                    "the tally is full: seen, or the count that would be raised, is at its most"
-                )
-            }
-            Refusal::NoSuchRow => write!(out, "the day list has no such row"),
-            Refusal::Unknown(code) => write!(out, "an answer without a name, {code:#x}"),
-            of_values => describe_values(*of_values, out),
+        let (number, place) = (self.number(), self.place());
+        let row = WORDS.iter().find(|row| (row.0, row.1) == (number, place));
+        match (self, row) {
+            (Refusal::Unknown(code), _) => write!(out, "an answer without a name, {code:#x}"),
+            (_, Some((_, _, words))) => out.write_str(words),
+            (_, None) => write!(out, "refused with {number} {place}"),
         }
-    }
-}
-
-/// The refusals of a case's amounts and hashes.
-fn describe_values(refusal: Refusal, out: &mut fmt::Formatter<'_>) -> fmt::Result {
-    let place = refusal.place();
-    match refusal {
-        Refusal::BothPublicValues => write!(out, "both public values are nonzero"),
-        Refusal::PublicValueTooHigh(which) => {
-            let does = if which == Pair::First {
-                "enters"
-            } else {
-                "leaves"
-            };
-            write!(
-                out,
-                "the public value that {does} the pool is more than all money"
-            )
-        }
-        Refusal::OutOfRange(Bound::Phi) => write!(out, "phi has more than 252 bits"),
-        Refusal::OutOfRange(_) => {
-            write!(
-                out,
-                "old note {place} has a key of more than 252 bits or a position outside the tree"
-            )
-        }
-        Refusal::PathWrong(_) => {
-            write!(
-                out,
-                "old note {place} has a value, and its path does not lead to the anchor"
-            )
-        }
-        Refusal::NotBalanced => write!(out, "what goes in and what comes out do not balance"),
-        Refusal::NullifierWrong(which) => {
-            write!(
-                out,
-                "the {} nullifier is not that of old note {place}",
-                which.ordinal()
-            )
-        }
-        Refusal::AddressWrong(_) => {
-            write!(out, "old note {place}'s address is not that of its key")
-        }
-        Refusal::TagWrong(which) => write!(out, "the {} tag is wrong", which.ordinal()),
-        Refusal::RhoWrong(_) => write!(out, "new note {place}'s rho is wrong"),
-        Refusal::CommitmentWrong(which) => {
-            write!(
-                out,
-                "the {} commitment is not that of new note {place}",
-                which.ordinal()
-            )
-        }
-        other => write!(out, "{} {place}", other.number()),
     }
 }
 

@@ -71,6 +71,33 @@ measure() { # FILL CASES
     rm -f "$out/tape"
 }
 
+# Estimated: the cycles that llvm-mca gives for the blocks that ran, for some processors.
+estimate() {
+    command -v llvm-mca-22 >/dev/null || command -v llvm-mca >/dev/null || {
+        printf '\nNo estimate of cycles: llvm-mca is missing.\n'
+        return
+    }
+    printf '\nCycles by the estimate of llvm-mca, %s cases; each block as a loop of its own, then as if nothing waited:\n\n' $((cases / 10))
+    echo '| rows | processor | proved / plain | nothing waits | proved / tuned | nothing waits |'
+    echo '| --- | --- | --- | --- | --- | --- |'
+    local fill cpu
+    for fill in $fills; do
+        "$out/cases" "$fill" $((cases / 10)) "$seed" >"$out/tape"
+        note_blocks proved judge-plain
+        note_blocks plain judge-plain
+        note_blocks plain judge-words
+        for cpu in skylake znver2 alderlake; do
+            python3 "$here/cycles.py" "$cpu" "$out"/blocks.{proved.judge-plain,plain.judge-plain,plain.judge-words} |
+                awk -v row="| $fill | $cpu" '{ loop[NR] = $1; free[NR] = $2 }
+                    END { printf "%s | %.3f | %.3f | %.3f | %.3f |\n", row, loop[1] / loop[2], free[1] / free[2], loop[1] / loop[3], free[1] / free[3] }'
+        done
+    done
+}
+
+note_blocks() { # SIDE PROGRAM
+    "$qemu" -plugin "$out/count.so,out=$out/total,blocks=$out/blocks.$1.$2" "$out/$2" mark "$1" "$out/tape"
+}
+
 build
 for fill in $fills; do measure "$fill" "$cases"; done
 for fill in $steps; do measure "$fill" $((cases / 10)); done
@@ -84,3 +111,4 @@ fi
 echo "$("$RUSTC" --version); $cases cases at each of $fills rows; all judges gave the same answers and left the same ledgers."
 # shellcheck disable=SC2086
 python3 "$here/report.py" "$out" "$unit" $fills
+[ -z "$qemu" ] || estimate

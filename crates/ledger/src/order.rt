@@ -54,14 +54,13 @@ fn word(s: &[u8], at: usize) -> u64
     )
 }
 
-// How they stand by the words past the first. Apart, so that `compare` is short enough to be compiled into
-// its callers: of two rows of hashes the first words decide.
-fn compare_rest(a: &[u8], i: usize, b: &[u8], j: usize) -> Order
+// How the row of a at index i stands to the row of b at index j, word after word.
+pub fn compare_words(a: &[u8], i: usize, b: &[u8], j: usize) -> Order
     requires { ⌜ i + 32 ≤ length (now a) ⌝ }
     requires { ⌜ j + 32 ≤ length (now b) ⌝ }
-    ensures { λ r. ⌜ r ≡ byteOrder (take 24 (drop (i + 8) (now (a .entry)))) (take 24 (drop (j + 8) (now (b .entry)))) ⌝ }
+    ensures { λ r. ⌜ r ≡ byteOrder (take 32 (drop i (now (a .entry)))) (take 32 (drop j (now (b .entry)))) ⌝ }
 {
-    for k in 1..4 {
+    for k in 0..4 {
         let x = word(a, i + k * 8);
         let y = word(b, j + k * 8);
         if x < y {
@@ -74,7 +73,8 @@ fn compare_rest(a: &[u8], i: usize, b: &[u8], j: usize) -> Order
     Order::Equal
 }
 
-// How the row of a at index i stands to the row of b at index j.
+// The same. Of two rows of hashes the first words nearly always decide: they are compared here, in few
+// enough instructions to be compiled into a caller's loop.
 pub fn compare(a: &[u8], i: usize, b: &[u8], j: usize) -> Order
     requires { ⌜ i + 32 ≤ length (now a) ⌝ }
     requires { ⌜ j + 32 ≤ length (now b) ⌝ }
@@ -88,5 +88,22 @@ pub fn compare(a: &[u8], i: usize, b: &[u8], j: usize) -> Order
     if y < x {
         return Order::Greater;
     }
-    compare_rest(a, i, b, j)
+    compare_words(a, i, b, j)
+}
+
+// Whether the row of a at index i is below the row of b at index j; by the first words where they decide.
+pub fn is_below(a: &[u8], i: usize, b: &[u8], j: usize) -> bool
+    requires { ⌜ i + 32 ≤ length (now a) ⌝ }
+    requires { ⌜ j + 32 ≤ length (now b) ⌝ }
+    ensures { λ r. ⌜ r ≡ isLess (byteOrder (take 32 (drop i (now (a .entry)))) (take 32 (drop j (now (b .entry))))) ⌝ }
+{
+    let x = word(a, i);
+    let y = word(b, j);
+    if x < y {
+        return true;
+    }
+    if y < x {
+        return false;
+    }
+    compare_words(a, i, b, j).is_less()
 }

@@ -1,6 +1,6 @@
 // The anchor roll: rows of 32 bytes in lent memory, of which the first count are used, in the order in
 // which they were written. How one row stands to another is left to order.rt.
-use crate::order::compare;
+use crate::order::compare_words;
 ghost use mathlib.Core.Path.{_≡_};
 ghost use Prim.Native.Nat.{_*_, _≤_};
 ghost use lib.ListN.{length};
@@ -14,7 +14,7 @@ pub fn stands_on(roll: &[u8], count: usize, row: &[u8; 32]) -> bool
 {
     let mut i = 0;
     while i < count {
-        if compare(row, 0, roll, i * 32).is_equal() {
+        if compare_words(row, 0, roll, i * 32).is_equal() {
             return true;
         }
         i += 1;

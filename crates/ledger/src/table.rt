@@ -4,6 +4,7 @@
 use crate::Found;
 use crate::order::Order;
 use crate::order::compare;
+use crate::order::is_below;
 use units::Row;
 ghost use mathlib.Core.Path.{_≡_};
 ghost use mathlib.Core.Bool.{true};
@@ -20,7 +21,7 @@ pub fn is_rising(table: &[u8], count: usize) -> bool
 {
     let mut i = 0;
     while i + 1 < count {
-        let rises = compare(table, i * 32, table, (i + 1) * 32).is_less();
+        let rises = is_below(table, i * 32, table, (i + 1) * 32);
         if !rises {
             return false;
         }

@@ -3,7 +3,7 @@ use Prim.Native.Nat.{_+_}
 use native.Mathlib.Omega.{arith}
 use lib.ListN.{take, drop}
 use Rattle.ledger.specs.Rows.{decided, byteOrder}
-use Rattle.ledger.proofs.ByteOrder.{decided-below, decided-above, decided-level, first-turn}
+use Rattle.ledger.proofs.ByteOrder.{decided-below, decided-above, first-turn}
 use borrow.Author.Needs.{needs}
 use Rattle.ledger.proofs.order.compare.Statement.{statement}
 use Rattle.ledger.proofs.order.compare.Tie as tie
@@ -25,9 +25,7 @@ returns-2 : tie.Need-returns-2
 returns-2 c = sym (turn (c .before .before) ∙ decided-above _ (c .if2 .taken))
 
 returns-3 : tie.Need-returns-3
-returns-3 c =
-    let w = c .before .before .before in
-    c .compare-rest .ensures ∙ sym (turn w ∙ decided-level _ (omega arith))
+returns-3 c = c .compare-words .ensures
 
 pub compare-spec : {M : Type 1} → statement M
 compare-spec =

@@ -33,7 +33,7 @@ turn c =
     let p = q .before .before in
     let a = p .before .before .args in
     let rest = among (a .row .now) (drop (p .loop .i + 1) (rowsOf (a .count) (a .roll .now))) in
-    let told = c .before .compare .ensures ∙ ap (λ (r : List ℕ). byteOrder r (rowAt (a .roll .now) (p .loop .i))) (take-all 32 (a .row .now) (omega (arith, q .compare-arg .given .0))) in
+    let told = c .before .compare-words .ensures ∙ ap (λ (r : List ℕ). byteOrder r (rowAt (a .roll .now) (p .loop .i))) (take-all 32 (a .row .now) (omega (arith, q .compare-words-arg .given .0))) in
     p .loop .inv .1 ∙ roll-turn (a .count) (p .loop .i) (a .roll .now) (a .row .now) (omega arith)
     ∙ ap (λ (b : Bool). b || rest) (sym (c .is-equal .ensures ∙ ap isEqual told))
 

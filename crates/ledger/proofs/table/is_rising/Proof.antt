@@ -4,7 +4,7 @@ use Prim.Native.Nat.{_+_, _-_, _≤_}
 use native.Mathlib.Omega.{arith}
 use borrow.Author.Tests.{not-true, not-false}
 use lib.ListN.{drop}
-use Rattle.ledger.specs.Sorted.{isLess, rising}
+use Rattle.ledger.specs.Sorted.{rising}
 use Rattle.ledger.specs.Rows.{byteOrder}
 use Rattle.octets.specs.Rows.{rowsOf}
 use Rattle.ledger.proofs.ByteOrder.{byte-total}
@@ -25,23 +25,23 @@ loop-holds : tie.Need-loop-holds Inv-loop μ-loop
 loop-holds c = (search needs, refl)
 
 -- what the order of two neighbours says of the whole
-turn : (c : tie.After-is-less Inv-loop μ-loop)
-    → let p = c .before .before .before in
+turn : (c : tie.After-is-below Inv-loop μ-loop)
+    → let p = c .before .before in
     let a = p .before .before .args in
     let rows = rowsOf (a .count) (a .table .now) in
-    rising byteOrder rows ≡ (c .is-less .result && rising byteOrder (drop (p .loop .i + 1) rows))
+    rising byteOrder rows ≡ (c .is-below .result && rising byteOrder (drop (p .loop .i + 1) rows))
 turn c =
-    let p = c .before .before .before in
+    let p = c .before .before in
     let a = p .before .before .args in
     let rest = rising byteOrder (drop (p .loop .i + 1) (rowsOf (a .count) (a .table .now))) in
     p .loop .inv .1 ∙ rising-turn (a .count) (p .loop .i) (a .table .now) (omega arith)
-    ∙ ap (λ (b : Bool). b && rest) (sym (c .is-less .ensures ∙ ap isLess (c .before .compare .ensures)))
+    ∙ ap (λ (b : Bool). b && rest) (sym (c .is-below .ensures))
 
 returns : tie.Need-returns Inv-loop μ-loop
-returns c = sym (turn (c .before) ∙ rw (not-true (c .before .is-less .result) (c .if1 .taken)))
+returns c = sym (turn (c .before) ∙ rw (not-true (c .before .is-below .result) (c .if1 .taken)))
 
 loop-again : tie.Need-loop-again Inv-loop μ-loop
-loop-again c = (search needs, turn (c .before) ∙ rw (not-false (c .before .is-less .result) (c .if1 .left)))
+loop-again c = (search needs, turn (c .before) ∙ rw (not-false (c .before .is-below .result) (c .if1 .left)))
 
 returns-2 : tie.Need-returns-2 Inv-loop μ-loop
 returns-2 c =
@@ -61,7 +61,6 @@ is-rising-spec =
     (λ c. search needs)
     (λ c. search needs)
     (λ c. search needs)
-    (λ c κs. search needs)
     (λ c κs. search needs)
     returns
     (λ c. search needs)

@@ -1,26 +1,27 @@
-use mathlib.Core.Path.{_≡_, refl, sym, _∙_}
+use mathlib.Core.Path.{_≡_, sym, _∙_}
 use Prim.Native.Nat.{_+_, _-_, _≤_}
+use native.Mathlib.Nat.{add-zero}
 use native.Mathlib.Omega.{arith}
 use lib.ListN.{take, drop}
 use Rattle.ledger.specs.Rows.{decided, byteOrder}
 use Rattle.ledger.proofs.ByteOrder.{decided-below, decided-above, decided-level, fromWord, word-turn}
 use borrow.Author.Needs.{needs}
-use Rattle.ledger.proofs.order.compare_rest.Statement.{statement}
-use Rattle.ledger.proofs.order.compare_rest.Tie as tie
+use Rattle.ledger.proofs.order.compare_words.Statement.{statement}
+use Rattle.ledger.proofs.order.compare_words.Tie as tie
 
 abbrev Inv-loop : tie.InvT-loop
-Inv-loop a i b j k₀ k = (k ≤ 4) × (byteOrder (take 24 (drop (i + 8) a)) (take 24 (drop (j + 8) b)) ≡ fromWord k a i b j)
+Inv-loop a i b j k₀ k = (k ≤ 4) × (byteOrder (take 32 (drop i a)) (take 32 (drop j b)) ≡ fromWord k a i b j)
 
 abbrev μ-loop : tie.MeasureT-loop
 μ-loop a i b j k₀ k = 4 - k
 
 loop-holds : tie.Need-loop-holds Inv-loop μ-loop
-loop-holds c = (search needs, refl)
+loop-holds c = (search needs, simp add-zero)
 
 -- a turn's two words decide, and where they are equal the words past them do
 turn : (c : tie.After-word2 Inv-loop μ-loop)
     → let a = c .before .before .before .before .before .before .args in
-    byteOrder (take 24 (drop (a .i + 8) (a .a .now))) (take 24 (drop (a .j + 8) (a .b .now)))
+    byteOrder (take 32 (drop (a .i) (a .a .now))) (take 32 (drop (a .j) (a .b .now)))
     ≡ decided (c .before .word .result) (c .word2 .result) (fromWord (c .before .before .before .loop .k + 1) (a .a .now) (a .i) (a .b .now) (a .j))
 turn c =
     let p = c .before .before .before in
@@ -45,8 +46,8 @@ returns-3 c =
     let e : l .k ≡ 4 = omega arith in
     sym (l .inv .1 ∙ rw e)
 
-pub compare-rest-spec : {M : Type 1} → statement M
-compare-rest-spec =
+pub compare-words-spec : {M : Type 1} → statement M
+compare-words-spec =
     tie.close
     (tie.spec
     Inv-loop

@@ -1,5 +1,5 @@
 #!/usr/bin/env python3
-"""Writes the sample bags, a tray of bags at the edges of the rules, and the lines that they must print.
+"""Writes the sample bags, a tray of more bags, and the lines that they must print.
 
     python3 samples/make.py
 
@@ -9,7 +9,8 @@ library offers, is written out from FIPS 180-4 and held against that library at 
 bag must be answered is stated by hand, from the rules, beside the bag.
 
 The first sample is also the stored run of the scanner: it goes to crates/scanner/ a second time. All
-samples and the bags at the edges, one after the other, are the stored run of crates/tray/.
+samples, bags at the edges of the rules and pairs of cases in both orders, one after the other, are the
+stored run of crates/tray/.
 """
 
 import hashlib
@@ -186,6 +187,13 @@ def with_byte_changed(file, at):
     return file[:at] + bytes([file[at] ^ 1]) + file[at + 1:]
 
 
+def with_carried_changed(file):
+    """Every bit of the ephemeral key, the proof and the ciphertexts turned over, and no other."""
+    def turned(start, end):
+        return bytes(b ^ 0xFF for b in file[start:end])
+    return file[:176] + turned(176, 208) + file[208:304] + turned(304, 1802) + file[1802:]
+
+
 # ---- Bags ------------------------------------------------------------------------------------
 
 def seal(kind, raw, low=0.0, high=0.0):
@@ -325,10 +333,83 @@ def seals():
         yield bag(body, b""), lines
 
 
+def pairs():
+    """The third demand's pairs: each case alone, and then two of them in both orders.
+
+    A fresh ledger has room for 2,048 nullifiers and the empty root for an anchor. None of the old notes
+    has a value, so that none needs a path; two cases share a nullifier where they have an old note in
+    common, its key and its rho.
+    """
+    first, second = old_note("pair A old 1"), old_note("pair A old 2")
+    a = case("pair A", vpub_old=100, new=(60, 40), old=[first, second])
+    b = case("pair B", vpub_old=7, new=(0, 7))
+
+    def lines(*answers, spent, pool):
+        cases = [f"case {answer}" for answer in answers]
+        return ["seal 0 0", *cases, f"ledger spent {spent} leaves {spent} pool {pool}"]
+
+    def judged(*cases):
+        return bag(OPEN, *cases)
+
+    yield judged(a), lines("0 0", spent=2, pool=100)
+    yield judged(b), lines("0 0", spent=2, pool=7)
+    # No nullifier in common: both orders pass and end alike.
+    yield judged(a, b), lines("0 0", "0 0", spent=4, pool=107)
+    yield judged(b, a), lines("0 0", "0 0", spent=4, pool=107)
+
+    # Each of these five would pass alone, puts 5 in and has old notes in common with A. Beside it: what
+    # it is answered after A, and what A is answered after it. A place is that of the nullifier in the
+    # case that is refused, and where both of its nullifiers are spent the lower one counts.
+    def sharing(label, one=None, two=None):
+        notes = [one or old_note(f"{label} own"), two or old_note(f"{label} own")]
+        return case(label, vpub_old=5, new=(5, 0), old=notes)
+
+    for shares, after_a, a_after in [
+        (sharing("first is first", one=first), "8 1", "8 1"),
+        (sharing("second is second", two=second), "8 2", "8 2"),
+        (sharing("second is first", two=first), "8 2", "8 1"),
+        (sharing("first is second", one=second), "8 1", "8 2"),
+        (sharing("both, exchanged", one=second, two=first), "8 1", "8 1"),
+    ]:
+        yield judged(shares), lines("0 0", spent=2, pool=5)
+        yield judged(a, shares), lines("0 0", after_a, spent=2, pool=100)
+        yield judged(shares, a), lines("0 0", a_after, spent=2, pool=5)
+
+    # One is refused whether it is alone, first or last, and A passes: a commitment is wrong, the anchor
+    # is not on the roll, and a file of the wrong length, which has no nullifiers though its bytes are A's.
+    for refused, answer in [
+        (with_byte_changed(case("pair claims wrong", vpub_old=1, new=(1, 0)), 112), "16 1"),
+        (case("pair elsewhere", anchor=secret("another root")), "6 0"),
+        (a[:-1], "1 0"),
+    ]:
+        yield judged(refused), lines(answer, spent=0, pool=0)
+        yield judged(refused, a), lines(answer, "0 0", spent=2, pool=100)
+        yield judged(a, refused), lines("0 0", answer, spent=2, pool=100)
+
+    # Neither half of the demand speaks of this pair: they share a nullifier, and one would not pass alone.
+    # Here the order does show, since 8 is asked before 16.
+    faulty = with_byte_changed(sharing("shares and claims wrong", one=first), 112)
+    yield judged(faulty), lines("16 1", spent=0, pool=0)
+    yield judged(faulty, a), lines("16 1", "0 0", spent=2, pool=100)
+    yield judged(a, faulty), lines("0 0", "8 1", spent=2, pool=100)
+
+    # Refused for its second nullifier, a case leaves nothing of its first one: a third case may spend it.
+    left = old_note("left unspent")
+    spoilt = sharing("spoilt", one=left, two=second)
+    again = sharing("spends what was left", one=left)
+    yield judged(a, spoilt, again), lines("0 0", "8 2", "0 0", spent=4, pool=105)
+
+    # What is carried and never checked moves no answer and no ledger.
+    carried = with_carried_changed(a)
+    yield judged(carried), lines("0 0", spent=2, pool=100)
+    yield judged(a, carried), lines("0 0", "8 1", spent=2, pool=100)
+    yield judged(carried, b), lines("0 0", "0 0", spent=4, pool=107)
+
+
 def tray():
     """The bytes of the tray and its lines. It ends inside a bag, which ends the run."""
     bags = [(data, lines) for _, data, lines in samples()]
-    bags += [*lengths(), *layouts(), *seals()]
+    bags += [*lengths(), *layouts(), *seals(), *pairs()]
     stored = b"".join(struct.pack("<I", len(data)) + data for data, _ in bags)
     cut = bag(OPEN)
     stored += struct.pack("<I", len(cut)) + cut[:-1]

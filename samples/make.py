@@ -197,7 +197,7 @@ def with_carried_changed(file):
 # ---- Bags ------------------------------------------------------------------------------------
 
 def seal(kind, raw, low=0.0, high=0.0):
-    """Gate kind 0 none, 1 at least, 2 between; an unused limit is zero bytes."""
+    """A seal's body; limits that the kind of gate does not use are left zero."""
     return struct.pack("<B3d", kind, low, high, raw)
 
 

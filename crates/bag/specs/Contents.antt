@@ -17,7 +17,7 @@ rowCount b = little (field 0 2 b)
 abbrev pub rowStart : ℕ → ℕ
 rowStart i = 2 + 9 * i
 
--- row i: kind in one byte, offset from the bag's start in four, length in four
+-- row i: a byte for the body's kind, then four for where it starts and four for how long it is
 unfoldable pub entryOf : ℕ → List ℕ → Entry
 entryOf i b =
     record {

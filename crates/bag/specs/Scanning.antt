@@ -49,7 +49,7 @@ unfoldable pub withCase : List ℕ → Held → List ℕ → Held
 withCase r h c =
     held (h .answers ++ (answerOf c (h .table) r (h .ledger) ∷ [])) (tableAfter c (h .table) r (h .ledger)) (ledgerAfter c (h .table) r (h .ledger))
 
--- cases judged in order, a refused one not stopping the next
+-- one case after the other, whatever the one before was answered
 unfoldable pub judgedAll : List ℕ → Held → List (List ℕ) → Held
 judgedAll r h [] = h
 judgedAll r h (c ∷ cs) = judgedAll r (withCase r h c) cs

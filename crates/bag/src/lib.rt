@@ -115,7 +115,7 @@ fn seal_in(bag: &[u8]) -> Read
     seal::read_body(body(bag, 0))
 }
 
-// Where the layout or the seal refuses, no case is judged.
+// What a scan gives that stopped at the layout or at the seal.
 fn unjudged(layout: Answer, seal: Answer, ledger: Ledger) -> Scanned
     ensures { λ r. ⌜ r ≡ report layout seal [] ledger ⌝ }
 {

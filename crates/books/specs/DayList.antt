@@ -1,4 +1,4 @@
--- The day list: entering an answer changes one row, and a row number past the end is refused with the list untouched.
+-- The day list: one row is rewritten, and where there is no such row nothing is.
 -- Assumes nothing.
 use Prim.Native.Nat.{ℕ}
 use mathlib.Core.Bool.{Bool, cond}

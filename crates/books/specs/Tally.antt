@@ -1,4 +1,4 @@
--- The shift tally: at a full "seen", or a full count that it would raise, it answers no and stays.
+-- The shift tally: three counts that never turn over. Where one that an answer raises has no number left, the tally stays as it is.
 -- Assumes nothing.
 use Prim.Native.Nat.{ℕ, _+_}
 use mathlib.Core.Bool.{Bool, true, false, _||_, cond}

@@ -86,7 +86,7 @@ pub struct DayRow {
     pub place: u8,
 }
 
-// Rewrites one row of the day list. A row number past the end is refused, and the list stays.
+// Rewrites one row of the day list, and answers whether there is such a row; if not, the list stays.
 pub fn enter(list: &mut [DayRow], at: Row, row: DayRow) -> bool
     ensures { λ r. ⌜ (r ≡ isOn (at .0) (now (list .entry))) × (now (list .exit) ≡ entered (at .0) row (now (list .entry))) ⌝ }
 {

@@ -1,6 +1,7 @@
 // A day at the scanner, as the gate runs it: seven answers are entered in a list of four rows and
 // counted, once in place and once on plain values, and then tallies that are full or nearly so.
-// What must be printed stands in the file stdout, worked out from the rules.
+// What must be printed stands in the file stdout, worked out from the rules; the books themselves are
+// left to `books`.
 ghost use mathlib.Core.Path.{_≡_};
 ghost use Rattle.books.specs.Tally.{tallyOf};
 ghost use Rattle.day.specs.Page.{pageOf};

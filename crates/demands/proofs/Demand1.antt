@@ -1,5 +1,5 @@
--- THE FIRST DEMAND: any file, any ledger gets an answer. A refusal has its number and its place exactly when its row of the table is the first that
--- applies; each number has its own places; and a refusal leaves the ledger exactly as it was.
+-- THE FIRST DEMAND, over all bytes and all ledgers: the table has each number with its own places; one of them is the answer exactly where its row
+-- applies and none above it does; and what is held is the same after a refusal as before.
 -- Assumes nothing.
 use Prim.Native.Nat.{ℕ}
 use mathlib.Core.Path.{_≡_, refl, sym, ap, _∙_}

@@ -1,6 +1,6 @@
--- THE THIRD DEMAND: the order of opening does not matter. On one ledger with room for two cases, no block closed between them: each case gets the answer
--- it would get alone, whichever goes first; if both are accepted, both orders end alike; and of two that would each pass alone and share a nullifier,
--- the first passes and the second is refused as spent.
+-- THE THIRD DEMAND: two cases, judged one right after the other on a ledger that has room for both. Where they have no nullifier in common, each is
+-- answered as if the other were not there, and two that pass end alike in either order. Where they have one in common and either would pass, only the
+-- earlier one does: the later is refused with 8.
 -- Assumes nothing.
 use Prim.Native.Nat.{ℕ, _+_, _*_, _≤_}
 use mathlib.Core.Path.{_≡_, refl, sym, ap, ap₂, _∙_}
@@ -104,7 +104,7 @@ module _ (c d t r : List ℕ) (l : Ledger) (room : RoomForTwo t l) where
           (λ e. answer-lower d t′ r l′ ∙ ap (λ (rows : List Row). lower (first (caseTable d)) (first rows)) (ledger-same h none e) ∙ sym (answer-lower d t r l))
           (λ e. wrong-length d t′ r l′ e ∙ sym (wrong-length d t r l e))
 
-  -- OF TWO THAT SHARE A NULLIFIER, and would each pass alone, the second is refused as spent, at the lowest place
+  -- A NULLIFIER IN COMMON: of two that would each pass, the later one is refused with 8, at its lowest place that was spent
   module _ (h : answerOf c t r l .number ≡ 0) (k : answerOf d t r l .number ≡ 0) where
     own-passes : first (caseTable d) ≡ answer 0 0
     own-passes =
@@ -199,7 +199,7 @@ one-accepted c d t r l room v w s =
     let q = valid-accepted d t r l w in
     (p, refused-at-1 c d t r l room (ap (λ (a : Answer). a .number) p) (ap (λ (a : Answer). a .number) q) s)
 
--- WHICHEVER NULLIFIER THEY SHARE, the first passes and the second is refused at the lowest place that was spent
+-- WHICHEVER NULLIFIER THEY SHARE, the earlier one passes and the later is refused, at its lowest place that was spent
 one-of : (c x : List ℕ) → IsOneOf c x ⊎ (IsOneOf c x → ⊥)
 one-of c x =
     by-test (same (nullifierOf 1 c) x)

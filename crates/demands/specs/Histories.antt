@@ -68,7 +68,7 @@ abbrev pub SpentWith : List ℕ → List (List ℕ) → List ℕ → Type 0
 SpentWith c before z = (z ≡ nullifierOf 1 c) ⊎ ((z ≡ nullifierOf 2 c) ⊎ List·Memᴰ z before)
 
 -- c was accepted on b and left b′. In the table's used rows are those that were there and c's two nullifiers, nothing else, in rising order; the count
--- says so, and the bytes past the new last row are as they were. The tree has c's two commitments more, the pool what c put in more and what it took
+-- says so, and what lies behind the rows now in use is as it was. The tree has c's two commitments more, the pool what c put in more and what it took
 -- out less. The roll, and its count, are as they were.
 pub record AfterOne (c : List ℕ) (b b′ : Held) : Type 0 where
   pub spent-only : (z : List ℕ) → List·Memᴰ z (spentIn b′) → SpentWith c (spentIn b) z

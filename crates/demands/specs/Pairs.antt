@@ -34,8 +34,8 @@ pub data LowestShared (c d : List ℕ) : ℕ → Type 0 where
 abbrev pub RoomForTwo : List ℕ → Ledger → Type 0
 RoomForTwo t l = l .nullifiers + 4 ≤ roomIn mostNullifiers (length t)
 
--- c and then d, and d and then c, end alike: in the table's bytes, the counts and the pool (the roll does not move); and the records are the first one
--- with the two pairs of commitments appended in one order or the other
+-- c and then d, and d and then c, end alike: in the table's bytes, the counts and the pool (the roll does not move). To the record that both began with
+-- the one order adds c's commitments and then d's, the other d's and then c's
 pub record SameEnd (c d t r : List ℕ) (l : Ledger) : Type 0 where
   pub table : tableAfter d (tableAfter c t r l) r (ledgerAfter c t r l) ≡ tableAfter c (tableAfter d t r l) r (ledgerAfter d t r l)
   pub nullifiers : ledgerAfter d (tableAfter c t r l) r (ledgerAfter c t r l) .nullifiers ≡ ledgerAfter c (tableAfter d t r l) r (ledgerAfter d t r l) .nullifiers
@@ -44,7 +44,7 @@ pub record SameEnd (c d t r : List ℕ) (l : Ledger) : Type 0 where
   pub c-first : ledgerAfter d (tableAfter c t r l) r (ledgerAfter c t r l) .tree ≡ grown (l .tree) (commitmentOf 1 c ∷ commitmentOf 2 c ∷ commitmentOf 1 d ∷ commitmentOf 2 d ∷ [])
   pub d-first : ledgerAfter c (tableAfter d t r l) r (ledgerAfter d t r l) .tree ≡ grown (l .tree) (commitmentOf 1 d ∷ commitmentOf 2 d ∷ commitmentOf 1 c ∷ commitmentOf 2 c ∷ [])
 
--- c goes first and passes, and d is then refused as spent, at its lowest place that c spent
+-- c passes, and d after it is refused with 8, at its lowest place that c spent
 pub record OneOfTwo (c d t r : List ℕ) (l : Ledger) : Type 0 where
   pub c-passes : answerOf c t r l ≡ accepted
   pub place : ℕ

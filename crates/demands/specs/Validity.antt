@@ -1,5 +1,6 @@
--- When the public rules say that a Sprout JoinSplit, with the disclosed notes in hand, is valid on a ledger. The clauses of the JoinSplit statement
--- have the names that source document 003 gives them in its section 5.6. i is 1 or 2; ForBoth says a clause of both.
+-- When the public rules take a Sprout JoinSplit whose notes lie open, on a given ledger. The clauses of the JoinSplit statement have the names that
+-- source document 003 gives them in its section 5.6. The balance is that of 003 and of document 01's refusal 11, two equal sums of any size: the
+-- ceiling of 2 ^ 64 - 1 that the published rules put on them is not asked yet. i is 1 or 2; ForBoth says a clause of both.
 -- Assumes nothing.
 use Prim.Native.Nat.{ℕ, _+_, _<_, _≤_}
 use mathlib.Core.Path.{_≡_}
@@ -36,7 +37,7 @@ pub record Statement (c : List ℕ) : Type 0 where
   pub uniqueness-of-rho : ForBoth (λ i. newRhoOf i c ≡ rhoFrom i (phiOf c) (hSig c))
   pub commitment-integrity : ForBoth (λ i. commitmentOf i c ≡ newNote i c)
 
--- THE ENCODING: a whole file, keys of 252 bits, positions of the tree
+-- THE ENCODING: a whole file; keys of 252 bits, and as many of phi, from which the new notes' rho are seeded; positions of the tree
 pub record Encoded (c : List ℕ) : Type 0 where
   pub whole : length c ≡ 4210
   pub keys : ForBoth (λ i. LeavesFree (oldKeyOf i c))

@@ -101,7 +101,8 @@ closedOf t r l =
 unfoldable pub rollAfterClose : List ℕ → List ℕ → Ledger → List ℕ
 rollAfterClose t r l = cond (isAccepted (first (closeTable t r l))) (pasted (l .anchors * 32) (recordRoot (l .tree)) r) r
 
--- OPENING a fresh ledger: no leaf, no nullifier, pool 0, and one anchor, the empty tree's root; refused where the roll has no row
+-- OPENING: nothing spent, no leaf, nothing in the pool, and the root of the tree with no leaf for an anchor. Where the roll has no row to write it in,
+-- that is refused, and there is no anchor either
 unfoldable pub startOf : ℕ → Ledger
 startOf anchors = record { nullifiers = 0; anchors = anchors; tree = freshOf; pool = record { 0 = pos 0 } }
 

@@ -19,7 +19,7 @@ use refusals::Answer;
 use tree::Tree;
 use units::Amount;
 
-// The row where something stands, or the row where it would go.
+// What a search finds: the row itself, or the gap that it would fill.
 pub enum Found {
     At(units::Row),
     Gap(units::Row),

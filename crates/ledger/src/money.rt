@@ -1,5 +1,5 @@
 // The pool's arithmetic: a signed number and amounts, exact. That nothing leaves the range is required
-// of the callers, all of them in this crate.
+// of the callers, all of them in this crate. Which case may move the pool is left to lib.rt.
 use crate::Pool;
 use units::Amount;
 ghost use mathlib.Core.Path.{_≡_};
@@ -41,7 +41,8 @@ pub fn size(pool: Pool) -> u64
     distance(p)
 }
 
-// The pool with what a case puts in, less what it takes out.
+// The pool with what a case puts in, less what it takes out. For `enter` of this crate alone, which
+// knows that the sum has room.
 pub fn moved(pool: Pool, old: Amount, new: Amount) -> Pool
     requires { ⌜ natAbs (pool .0) + old .0 + new .0 < 2 ^ 63 ⌝ }
     ensures { λ r. ⌜ r .0 ≡ pool .0 +ℤ pos (old .0) -ℤ pos (new .0) ⌝ }

@@ -54,7 +54,8 @@ fn word(s: &[u8], at: usize) -> u64
     )
 }
 
-// How the row of a at index i stands to the row of b at index j, word after word.
+// How the row of a at index i stands to the row of b at index j, word after word. For the modules of this
+// crate alone, which know that the rows are there; so are the two below.
 pub fn compare_words(a: &[u8], i: usize, b: &[u8], j: usize) -> Order
     requires { ⌜ i + 32 ≤ length (now a) ⌝ }
     requires { ⌜ j + 32 ≤ length (now b) ⌝ }

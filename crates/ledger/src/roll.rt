@@ -7,7 +7,7 @@ ghost use lib.ListN.{length};
 ghost use Rattle.octets.specs.Rows.{rowsOf};
 ghost use Rattle.ledger.specs.Rows.{among};
 
-// Whether a row is among the first count.
+// Whether a row is among the first count. For this crate alone, which asks it of a sound ledger's roll.
 pub fn stands_on(roll: &[u8], count: usize, row: &[u8; 32]) -> bool
     requires { ⌜ count * 32 ≤ length (now roll) ⌝ }
     ensures { λ r. ⌜ r ≡ among (now (row .entry)) (rowsOf count (now (roll .entry))) ⌝ }

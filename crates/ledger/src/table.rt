@@ -14,7 +14,7 @@ ghost use Rattle.octets.specs.Rows.{rowsOf};
 ghost use Rattle.ledger.specs.Sorted.{placeOf, isGap, rising, find};
 ghost use Rattle.ledger.specs.Rows.{byteOrder, shifted, withRow, entered, Fresh};
 
-// Whether the first count rows strictly rise.
+// Whether the first count rows strictly rise. For this crate alone, which tests the count before.
 pub fn is_rising(table: &[u8], count: usize) -> bool
     requires { ⌜ count * 32 ≤ length (now table) ⌝ }
     ensures { λ r. ⌜ r ≡ rising byteOrder (rowsOf count (now (table .entry))) ⌝ }
@@ -30,7 +30,8 @@ pub fn is_rising(table: &[u8], count: usize) -> bool
     true
 }
 
-// Where a row stands among the first count, or where it would go.
+// Where a row stands among the first count, or the gap for it. For this crate alone, which asks it of a
+// table that rises.
 pub fn search(table: &[u8], count: usize, row: &[u8; 32]) -> Found
     requires { ⌜ count * 32 ≤ length (now table) ⌝ }
     requires { ⌜ rising byteOrder (rowsOf count (now table)) ≡ true ⌝ }
@@ -92,7 +93,8 @@ fn enter_one(table: &mut [u8], count: usize, row: &[u8; 32])
     octets::copy_in(table, at, row);
 }
 
-// Two rows that differ and stand nowhere yet, put in where they go. The bytes past the new last row stay.
+// Two rows that differ and stand nowhere yet, put in where they go; behind them nothing moves. For `enter`
+// of this crate alone, whose own caller has asked about both.
 pub fn enter_two(table: &mut [u8], count: usize, a: &[u8; 32], b: &[u8; 32])
     requires { ⌜ (count + 2) * 32 ≤ length (now table) ⌝ }
     requires { ⌜ rising byteOrder (rowsOf count (now table)) ≡ true ⌝ }

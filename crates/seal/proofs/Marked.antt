@@ -76,11 +76,11 @@ says bytes n = eqb (numberOf (readOf bytes)) n
 
 abbrev tests : List Bool
 tests =
-    -- raw 100, gain 0.5, offset 1 gives exactly 51, which passes "at least 51" and fails "between 40 and 50"
+    -- half of 100 and 1 more is 51 to the last bit: enough where 51 is asked for, and too much for 40 to 50
     pulls hundred (gain-offset half one) fifty-one
     ∷ answers (gain-offset half one) (AtLeast (f fifty-one)) hundred 0
     ∷ answers (gain-offset half one) (Between (f forty) (f fifty)) hundred 23
-    -- minus zero passes "at least 0"
+    -- minus zero is not below 0
     ∷ pulls minus0 (gain-offset one minus0) minus0
     ∷ answers (gain-offset one minus0) (AtLeast (f 0)) minus0 0
     -- both ends pass

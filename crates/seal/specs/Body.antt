@@ -33,7 +33,7 @@ floatOf b = ofBits binary64 (little b)
 unfoldable pub isZero : List ℕ → Bool
 isZero b = same b (zeros 8)
 
--- gate kind 0 none, 1 at least, 2 between, and no other; "at least" uses low
+-- the gate by its kind, of which there are three; a limit from below stands in low
 unfoldable pub gateOf : List ℕ → Gate
 gateOf s =
     cond (eqb (kind s) 0) None

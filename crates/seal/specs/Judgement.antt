@@ -12,11 +12,11 @@ use Rattle.seal.specs.declared.Gate.the-variants.{None, AtLeast, Between
 use Rattle.seal.specs.declared.Sealed.{Sealed}
 use Rattle.seal.specs.declared.Sealed.the-variants.{Passed, BadLimit, NotFinite, Outside}
 
--- the raw reading times the gain, rounded once, plus the offset, rounded once
+-- a product and a sum, each rounded by itself
 unfoldable pub pullOf : Float → Calibration → Float
 pullOf raw c = add binary64 (mul binary64 raw (c .gain)) (c .offset)
 
--- 21: a limit not finite, or low above high
+-- 21: a limit that is no finite number, or two the wrong way round
 unfoldable pub badLimit : Gate → Bool
 badLimit None = false
 badLimit (AtLeast low) = not (finite low)

@@ -32,7 +32,7 @@ rangeOf c i = outOfRange (oldKeyOf i c) (oldPositionOf i c)
 unfoldable pub no9 : List ℕ → List Row
 no9 c = row (rangeOf c 1) 9 1 ∷ row (rangeOf c 2) 9 2 ∷ row (hasTopBits (phiOf c)) 9 3 ∷ []
 
--- old note i has a value, and its path does not lead from its commitment to the anchor
+-- old note i has a value, and its path, climbed from its commitment, ends elsewhere than at the anchor
 unfoldable pub oldCommitmentOf : ℕ → List ℕ → List ℕ
 oldCommitmentOf i c = commitmentFrom (oldAddressOf i c) (oldValueOf i c) (oldRhoOf i c) (oldTrapdoorOf i c)
 

@@ -15,7 +15,7 @@ use Rattle.tree.specs.declared.Tree.{Tree}
 unfoldable pub freshOf : Tree
 freshOf = record { leaves = 0; nodes = zeros 960 }
 
--- one leaf more; a record of 2 ^ 29 leaves or more stays as it is
+-- one leaf more; a full record stays as it is
 unfoldable pub withLeafOf : Tree → List ℕ → Tree
 withLeafOf t x =
     cond (ltb (t .leaves) treeLeaves) (record { leaves = t .leaves + 1; nodes = flat (push parentOf treeDepth (t .leaves) (rowsOf 30 (t .nodes)) x) }) t

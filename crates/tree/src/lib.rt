@@ -1,6 +1,6 @@
-// The commitment tree as a ledger and a case need it: the short record, which takes a leaf and hands
-// the next record back, its root, and a path climbed from a leaf. That the record's root is the
-// tree's, and that a leaf's own path leads there, are theorems of proofs/Grown.antt.
+// The commitment tree as a ledger and a case need it: the short record, to which a leaf is added, its
+// root, and a path climbed from a leaf. That the record's root is the tree's, and that a leaf's own path
+// leads there, are theorems of proofs/Grown.antt. Which leaves there are is left to `ledger`.
 ghost use mathlib.Core.Path.{_≡_};
 ghost use Prim.Native.Nat.{_<_, _*_};
 ghost use Rattle.octets.specs.Parts.{field};

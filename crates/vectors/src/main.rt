@@ -1,5 +1,6 @@
 // Runs the published vectors of the standards and of the Zcash network, and lengths at which padding
 // turns over, and prints a line for each. The stored output was made by other implementations.
+// The hashes and the tree are left to the crates that have them.
 use tree::Tree;
 
 fn digest(name: &[u8], bytes: &[u8]) {

@@ -11,7 +11,7 @@ use second::seal::{Gate, Seal};
 use second::tree::{empty_root, DEPTH};
 use second::wallet::{idle_note, write_case, Plan};
 
-/// vpub_old 10000, old values 0 and 0, new 10000 and 0, the empty root.
+/// Two idle notes, and 10,000 from outside for the first new one.
 fn first_case() -> Case {
     let mut random = Random::new(1);
     let plan = Plan {

@@ -436,7 +436,7 @@ fn keys_and_positions_have_the_drawn_bounds() {
         .strip_prefix("below 2^")
         .and_then(|rest| rest.split_once(';'));
     let bits: u32 = below.expect("a power of two").0.parse().expect("a number");
-    assert!(note.ends_with("bit k is 1 where the node at level k is a right child"));
+    assert!(note.ends_with("bit k says of level k: 0 a left child, 1 a right one"));
     assert!(Position(0b10).is_right_child(1) && !Position(0b10).is_right_child(0));
     let bound = 1 << bits;
     assert!(Position(bound - 1).is_in_tree());

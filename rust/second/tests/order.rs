@@ -1,4 +1,4 @@
-//! Demand 3: the order of opening must not matter.
+//! Demand 3: two cases in either order.
 
 mod common;
 

@@ -86,7 +86,10 @@ enum snaldrek_number {
     /* of these calls themselves: mistakes of the caller, found before anything else is looked at */
     SNALDREK_WRONG_BUFFER = 51,         /* place: which lent buffer, as in enum snaldrek_buffer */
     SNALDREK_TALLY_FULL = 52,           /* a count that would be raised is at its most */
-    SNALDREK_NO_SUCH_ROW = 53           /* the day list ends before this row */
+    SNALDREK_NO_SUCH_ROW = 53,          /* the day list ends before this row */
+
+    /* of no call: what a report has where a bag has no case, so that none is taken for a pass */
+    SNALDREK_NOT_GIVEN = 255
 };
 
 /* The place of SNALDREK_WRONG_BUFFER: whose length is not the one above. */
@@ -177,7 +180,8 @@ static inline int64_t snaldrek_ledger_pool(const uint8_t *ledger)
     return bits <= (uint64_t)INT64_MAX ? (int64_t)bits : -1 - (int64_t)(UINT64_MAX - bits);
 }
 
-/* A report: the number of cases in 4 bytes, then seven answers of 4 bytes, unused ones zero. */
+/* A report: the number of cases in 4 bytes, then seven answers of 4 bytes, SNALDREK_NOT_GIVEN past the
+   last case. */
 static inline uint32_t snaldrek_report_cases(const uint8_t *report) { return snaldrek_read_32(report); }
 
 /* The answer of case number `index`, from 0 and below snaldrek_report_cases. */

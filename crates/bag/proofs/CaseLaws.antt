@@ -13,7 +13,7 @@ use Rattle.ledger.specs.declared.Answered.{Answered}
 use Rattle.judge.specs.Judging.{tableAfter, judgedOf}
 use Rattle.bag.specs.declared.Scanned.{Scanned}
 use Rattle.bag.specs.Contents.{rowCount, bodyOf, bodiesFrom, casesOf}
-use Rattle.bag.specs.Scanning.{Held, held, withCase, judgedAll, judgedFrom, padded, report}
+use Rattle.bag.specs.Scanning.{notGiven, Held, held, withCase, judgedAll, judgedFrom, padded, report}
 
 one-more : (given : List Answer) (a : Answer) → length (given ++ (a ∷ [])) ≡ length given + 1
 one-more given a = length-append given (a ∷ [])
@@ -24,7 +24,7 @@ unfolding padded
 padded-next given a n e h =
     let m = 7 - length (given ++ (a ∷ [])) in
     let s : 7 - length given ≡ suc m = omega (arith, one-more given a) in
-    rw (s, set-at given accepted (replicate m accepted) a n e) (sym (append-assoc given (a ∷ []) (replicate m accepted)))
+    rw (s, set-at given notGiven (replicate m notGiven) a n e) (sym (append-assoc given (a ∷ []) (replicate m notGiven)))
 
 case-row : (r : List ℕ) (h : Held) (k i : ℕ) (b : List ℕ) → judgedAll r h (bodiesFrom (suc k) i b) ≡ judgedAll r (withCase r h (bodyOf i b)) (bodiesFrom k (i + 1) b)
 unfolding judgedAll bodiesFrom
@@ -38,7 +38,7 @@ pub record Before (b t₀ r : List ℕ) (l₀ : Ledger) (n i : ℕ) (answers : L
   pub whole : judgedFrom t₀ r l₀ (casesOf b) ≡ judgedAll r (held given t l) (bodiesFrom (n - i) i b)
 
 module _ (b t₀ r : List ℕ) (l₀ : Ledger) (n : ℕ) where
-  pub start : (none : Answer) → none ≡ accepted → n ≡ rowCount b → Before b t₀ r l₀ n 1 (replicate 7 none) t₀ l₀
+  pub start : (none : Answer) → none ≡ notGiven → n ≡ rowCount b → Before b t₀ r l₀ n 1 (replicate 7 none) t₀ l₀
   unfolding casesOf padded
   start none p q = record { given = []; counted = refl; shown = rw p; whole = rw q }
 
@@ -67,8 +67,8 @@ module _ (b t₀ r : List ℕ) (l₀ : Ledger) (n : ℕ) where
       pub table-left : t ≡ judgedFrom t₀ r l₀ (casesOf b) .table
       table-left = sym (ap (λ (x : Held). x .table) done)
 
-      pub reported : (none : Answer) → none ≡ accepted → _≡_ {A = Scanned} (record { layout = none; seal = none; cases = n - 1; answers = answers; ledger = l }) (report accepted accepted (judgedFrom t₀ r l₀ (casesOf b) .answers) (judgedFrom t₀ r l₀ (casesOf b) .ledger))
+      pub reported : (passed : Answer) → passed ≡ accepted → _≡_ {A = Scanned} (record { layout = passed; seal = passed; cases = n - 1; answers = answers; ledger = l }) (report accepted accepted (judgedFrom t₀ r l₀ (casesOf b) .answers) (judgedFrom t₀ r l₀ (casesOf b) .ledger))
       unfolding report
-      reported none p =
+      reported passed p =
           let m : n - 1 ≡ length (g .given) = omega (arith, g .counted) in
           rw (done, p, m, g .shown)

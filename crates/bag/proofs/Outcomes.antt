@@ -16,7 +16,7 @@ use Rattle.seal.specs.declared.Read.the-variants.{Seal, Broken}
 use Rattle.seal.specs.Judgement.{judgeOf, sealAnswer}
 use Rattle.ledger.specs.declared.Ledger.{Ledger}
 use Rattle.bag.specs.Contents.{laidOut, casesOf}
-use Rattle.bag.specs.Scanning.{sealIn, layoutAnswer, gateAnswer, judgedCases, Held, held, judgedAll, judgedFrom, heldAfter, report, scannedOf, tableAfterScan}
+use Rattle.bag.specs.Scanning.{sealIn, notGiven, layoutAnswer, gateAnswer, judgedCases, Held, held, judgedAll, judgedFrom, heldAfter, report, scannedOf, tableAfterScan}
 
 -- only a bag that keeps to the layout has a seal
 pub has-layout : (b : List ℕ) (gate : Gate) (raw : Float) → sealIn b ≡ Seal gate raw → laidOut b ≡ true
@@ -40,9 +40,9 @@ module _ (k : Calibration) (b t r : List ℕ) (l : Ledger) where
   unfolding scannedOf tableAfterScan
   gives layout seal h p q e = record { result = rw (sym p, sym q, sym e); table = sym (ap (λ (x : Held). x .table) e) }
 
-  pub broken : sealIn b ≡ Broken → Gives (answer 20 0) accepted (held [] t l)
+  pub broken : sealIn b ≡ Broken → Gives (answer 20 0) notGiven (held [] t l)
   unfolding heldAfter judgedCases judgedAll
-  broken h = gives (answer 20 0) accepted (held [] t l) (rw h) (rw h) (rw h)
+  broken h = gives (answer 20 0) notGiven (held [] t l) (rw h) (rw h) (rw h)
 
   module _ (gate : Gate) (raw : Float) (a : Answer) (h : sealIn b ≡ Seal gate raw) (e : a ≡ sealAnswer (judgeOf k gate raw)) where
     pub stopped : isAccepted a ≡ false → Gives accepted a (held [] t l)

@@ -21,6 +21,10 @@ use Rattle.bag.specs.Contents.{laidOut, bodyOf, casesOf}
 unfoldable pub sealIn : List ℕ → Read
 sealIn b = cond (laidOut b) (readOf (bodyOf 0 b)) Broken
 
+-- what stands for an answer that was not given: a number that no refusal has, so that it can be taken neither for a refusal's nor for a pass
+abbrev pub notGiven : Answer
+notGiven = answer 255 0
+
 -- the layout's answer
 abbrev pub layoutAnswer : Read → Answer
 layoutAnswer (Seal gate raw) = accepted
@@ -29,7 +33,7 @@ layoutAnswer Broken = answer 20 0
 -- the seal's answer; a broken bag has no seal to judge
 abbrev pub gateAnswer : Calibration → Read → Answer
 gateAnswer k (Seal gate raw) = sealAnswer (judgeOf k gate raw)
-gateAnswer k Broken = accepted
+gateAnswer k Broken = notGiven
 
 -- THE CASES that are judged: all, and none where the layout or the seal refuses
 unfoldable pub judgedCases : Calibration → List ℕ → List (List ℕ)
@@ -60,9 +64,9 @@ judgedFrom t r l cs = judgedAll r (held [] t l) cs
 unfoldable pub heldAfter : Calibration → List ℕ → List ℕ → List ℕ → Ledger → Held
 heldAfter k b t r l = judgedFrom t r l (judgedCases k b)
 
--- THE RESULT. There is room for seven answers: those that were given, and 0 and 0 for the rest
+-- THE RESULT. There is room for seven answers: those that were given, and notGiven for the rest
 unfoldable pub padded : List Answer → List Answer
-padded given = given ++ replicate (7 - length given) accepted
+padded given = given ++ replicate (7 - length given) notGiven
 
 unfoldable pub report : Answer → Answer → List Answer → Ledger → Scanned
 report layout seal given l = record { layout = layout; seal = seal; cases = length given; answers = padded given; ledger = l }

@@ -21,7 +21,8 @@ struct Entry {
     size: u32,
 }
 
-// What scanning a bag gave. An answer that was not given is 0 and 0.
+// What scanning a bag gave. An answer that was not given is 255 and 0, which no refusal has, so that none
+// is ever taken for a pass.
 pub struct Scanned {
     pub layout: Answer,
     pub seal: Answer,
@@ -119,7 +120,7 @@ fn seal_in(bag: &[u8]) -> Read
 fn unjudged(layout: Answer, seal: Answer, ledger: Ledger) -> Scanned
     ensures { λ r. ⌜ r ≡ report layout seal [] ledger ⌝ }
 {
-    let none = Answer::accepted();
+    let none = Answer::refused(255, 0);
     Scanned {
         layout,
         seal,
@@ -136,7 +137,7 @@ fn judge_cases(bag: &[u8], table: &mut [u8], roll: &[u8], start: Ledger) -> Scan
     ensures { λ _. ⌜ now (table .exit) ≡ judgedFrom (now (table .entry)) (now (roll .entry)) start (casesOf (now (bag .entry))) .table ⌝ }
 {
     let n = row_count(bag);
-    let none = Answer::accepted();
+    let none = Answer::refused(255, 0);
     let mut answers = [none; 7];
     let mut ledger = start;
     for i in 1..n {
@@ -147,9 +148,10 @@ fn judge_cases(bag: &[u8], table: &mut [u8], roll: &[u8], start: Ledger) -> Scan
         answers[i - 1] = given;
         ledger = next;
     }
+    let passed = Answer::accepted();
     Scanned {
-        layout: none,
-        seal: none,
+        layout: passed,
+        seal: passed,
         cases: n - 1,
         answers,
         ledger,
@@ -170,7 +172,7 @@ pub fn scan(
     let layout = Answer::accepted();
     let read = seal_in(bag);
     match read {
-        Read::Broken => unjudged(Answer::refused(20, 0), Answer::accepted(), ledger),
+        Read::Broken => unjudged(Answer::refused(20, 0), Answer::refused(255, 0), ledger),
         Read::Seal(gate, raw) => {
             let seal = seal::judge(calibration, gate, raw).answer();
             if !seal.is_accepted() {

@@ -86,6 +86,9 @@ pub enum Refusal {
     TallyFull,
     /// 53.
     NoSuchRow,
+    /// 255: no answer was given. No call returns it; it stands in a report for
+    /// the cases that a bag has not.
+    NotGiven,
     /// An answer that this crate has no name for, as the library gave it: the
     /// two are of different versions. It is kept as a refusal, since only 0 is
     /// a yes.
@@ -145,6 +148,7 @@ impl Refusal {
             Refusal::WrongBuffer(_) => 51,
             Refusal::TallyFull => 52,
             Refusal::NoSuchRow => 53,
+            Refusal::NotGiven => 255,
             Refusal::Unknown(code) => code as u8,
         }
     }
@@ -192,6 +196,7 @@ fn without_place(number: u32) -> Option<Refusal> {
         23 => Refusal::PullOutside,
         52 => Refusal::TallyFull,
         53 => Refusal::NoSuchRow,
+        255 => Refusal::NotGiven,
         _ => return None,
     })
 }
@@ -295,6 +300,7 @@ const WORDS: [(u8, u8, &str); 36] = [
     (51, 4, "the tally's buffer has not 12 bytes"),
     (52, 0, "the tally is full: seen, or the count that would be raised, is at its most"),
     (53, 0, "the day list has no such row"),
+    (255, 0, "no answer was given"),
 ];
 
 impl fmt::Display for Refusal {

@@ -74,7 +74,13 @@ fn hold_report(
     assert_eq!(code, common::code(expected));
     let mut written = [0; 32];
     written[0] = cases.len() as u8;
-    for (index, case) in cases.iter().enumerate() {
+    for index in 0..7 {
+        // An answer that was not given must not look like a pass.
+        let not_given = Plain {
+            number: 255,
+            place: 0,
+        };
+        let case = cases.get(index).unwrap_or(&not_given);
         written[4 + 4 * index] = case.number;
         written[5 + 4 * index] = case.place;
     }

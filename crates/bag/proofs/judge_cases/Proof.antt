@@ -10,10 +10,10 @@ use Rattle.bag.proofs.judge_cases.Statement.{statement}
 use Rattle.bag.proofs.judge_cases.Tie as tie
 
 abbrev Inv-loop : tie.InvT-loop
-Inv-loop bag table₀ roll n none answers₀ ledger₀ i₀ table answers ledger i = (1 ≤ i) × ((i ≤ n) × ((n ≤ 8) × ((length answers ≡ 7) × ((length table ≡ length table₀) × Before bag table₀ roll ledger₀ n i answers table ledger))))
+Inv-loop bag table₀ roll n answers₀ ledger₀ i₀ table answers ledger i = (1 ≤ i) × ((i ≤ n) × ((n ≤ 8) × ((length answers ≡ 7) × ((length table ≡ length table₀) × Before bag table₀ roll ledger₀ n i answers table ledger))))
 
 abbrev μ-loop : tie.MeasureT-loop
-μ-loop bag table₀ roll n none answers₀ ledger₀ i₀ table answers ledger i = n - i
+μ-loop bag table₀ roll n answers₀ ledger₀ i₀ table answers ledger i = n - i
 
 loop-holds : tie.Need-loop-holds Inv-loop μ-loop
 loop-holds c =
@@ -22,7 +22,7 @@ loop-holds c =
     let a = s .args in
     let k = kept (a .bag .now) (s .pre) in
     let n = q .row-count .ensures in
-    (search needs, (omega (arith, k .some, n), (omega (arith, k .few, n), (refl, (refl, start (a .bag .now) (a .table .now) (a .roll .now) (a .start) (q .row-count .result) (c .accepted .result) (c .accepted .ensures) n)))))
+    (search needs, (omega (arith, k .some, n), (omega (arith, k .few, n), (refl, (refl, start (a .bag .now) (a .table .now) (a .roll .now) (a .start) (q .row-count .result) (c .refused .result) (c .refused .ensures) n)))))
 
 body-requires : tie.Need-body-requires Inv-loop μ-loop
 body-requires c κs =
@@ -59,11 +59,11 @@ loop-again c =
 
 returns : tie.Need-returns Inv-loop μ-loop
 returns c =
-    let l = c .before in
+    let l = c .before .before in
     let q = l .before .before in
     let a = q .before .before .before .before .args in
     let g = l .loop .inv .1 .1 .1 .1 .1 in (
-      reported (a .bag .now) (a .table .now) (a .roll .now) (a .start) (q .row-count .result) (l .loop .i) (l .loop .answers) (l .loop .table) (l .loop .ledger) (omega arith) g (l .before .accepted .result) (l .before .accepted .ensures),
+      reported (a .bag .now) (a .table .now) (a .roll .now) (a .start) (q .row-count .result) (l .loop .i) (l .loop .answers) (l .loop .table) (l .loop .ledger) (omega arith) g (c .accepted .result) (c .accepted .ensures),
       table-left (a .bag .now) (a .table .now) (a .roll .now) (a .start) (q .row-count .result) (l .loop .i) (l .loop .answers) (l .loop .table) (l .loop .ledger) (omega arith) g,
     )
 
@@ -84,6 +84,7 @@ judge-cases-spec =
     (λ c. search needs)
     (λ c. search needs)
     loop-again
+    (λ c κs. search needs)
     (λ c. search needs)
     (λ c. search needs)
     returns)

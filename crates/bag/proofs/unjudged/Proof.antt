@@ -5,7 +5,7 @@ use Rattle.bag.proofs.unjudged.Tie as tie
 
 returns : tie.Need-returns
 unfolding padded report
-returns c = rw (c .accepted .ensures)
+returns c = rw (c .refused .ensures)
 
 pub unjudged-spec : {M : Type 1} → statement M
 unjudged-spec = tie.close (tie.spec (λ c κs. search needs) returns)

@@ -6,11 +6,12 @@ use mathlib.Core.Bool.{Bool, true, not, _&&_}
 use mathlib.Core.List.{List, [], _∷_, _++_}
 use lib.Dec.{eqb}
 use lib.ListN.{getD}
-use Rattle.octets.specs.Parts.{field, listed}
+use Rattle.octets.specs.Parts.{zeros, field, listed}
 use Rattle.octets.specs.Numbers.{little, littleBytes}
 use Rattle.refusals.specs.declared.Answer.{Answer}
 use Rattle.refusals.specs.Table.{first}
-use Rattle.sprout.specs.Hashes.{addressTag, nullifierTag, macTag, rhoTag, withTag, hasTopBits}
+use Rattle.sha256.specs.Compression.{compressOf}
+use Rattle.sprout.specs.Hashes.{addressTag, nullifierTag, macTag, rhoTag, withTag, hasTopBits, tagged, addressFrom, nullifierFrom, macFrom, rhoFrom}
 use Rattle.casefile.specs.Layout.{description, oldNote, newNote, lengths, total, offset, proofLength, partOf}
 use Rattle.casefile.specs.Fields.{vpubOldOf, vpubNewOf}
 use Rattle.statement.specs.Conditions.{bothPublic, aboveMoney, outOfRange, balanced}
@@ -54,10 +55,12 @@ module _ (rest : List ℕ) where
       ∷ eqb (firstByte (withTag (rhoTag 1) phi)) 0x25
       -- 6 new rho 2
       ∷ eqb (firstByte (withTag (rhoTag 2) phi)) 0x65
-      -- 7 the highest public value is allowed
+      -- 7 the highest public value is allowed, on either side
       ∷ answers (first (no5 (public 2100000000000000 0))) 0 0
+      ∷ answers (first (no5 (public 0 2100000000000000))) 0 0
       -- 8 one more is refusal 5
       ∷ answers (first (no5 (public 2100000000000001 0))) 5 1
+      ∷ answers (first (no5 (public 0 2100000000000001))) 5 2
       -- 9 two public values are refusal 4
       ∷ answers (first (no4 (public 1 1))) 4 0
       -- 10 balanced
@@ -71,3 +74,12 @@ module _ (rest : List ℕ) where
   all-marked : every marked ≡ true
   unfolding every firstByte answers public key phi marked withTag hasTopBits first no4 no5 bothPublic aboveMoney outOfRange balanced vpubOldOf vpubNewOf partOf offset total lengths description oldNote newNote proofLength field listed little littleBytes
   all-marked = refl
+
+  -- 1 to 6 once more, of the hashes themselves: each compresses a block that begins so
+  marked-blocks : (rho hSig : List ℕ) → (addressFrom key ≡ compressOf ((0xca ∷ rest) ++ (0 ∷ zeros 31)))
+      × ((nullifierFrom key rho ≡ compressOf ((0xea ∷ rest) ++ rho))
+      × ((macFrom 1 key hSig ≡ compressOf ((0x0a ∷ rest) ++ hSig))
+      × ((macFrom 2 key hSig ≡ compressOf ((0x4a ∷ rest) ++ hSig))
+      × ((rhoFrom 1 phi hSig ≡ compressOf ((0x25 ∷ rest) ++ hSig)) × (rhoFrom 2 phi hSig ≡ compressOf ((0x65 ∷ rest) ++ hSig))))))
+  unfolding key phi withTag tagged addressFrom nullifierFrom macFrom rhoFrom
+  marked-blocks rho hSig = (refl, (refl, (refl, (refl, (refl, refl)))))

@@ -74,7 +74,7 @@ module _ (c t r : List ℕ) (l : Ledger) where
         new-money = v .public-values .new-money;
         distinct = v .ledger .distinct;
         ranges = ((v .encoding .keys .0, v .encoding .positions .0), (v .encoding .keys .1, v .encoding .positions .1));
-        phi-free = v .encoding .seed;
+        phi-free = v .encoding .phi;
         paths = v .statement .merkle-path-validity;
         balance = v .statement .balance;
         nullifiers = v .statement .nullifier-integrity;
@@ -89,7 +89,7 @@ module _ (c t r : List ℕ) (l : Ledger) where
   valid-of k a =
       record {
         encoding =
-            record { whole = k .whole; keys = (k .ranges .0 .0, k .ranges .1 .0); seed = k .phi-free; positions = (k .ranges .0 .1, k .ranges .1 .1) };
+            record { whole = k .whole; keys = (k .ranges .0 .0, k .ranges .1 .0); phi = k .phi-free; positions = (k .ranges .0 .1, k .ranges .1 .1) };
         public-values = record { one-sided = k .one-sided; old-money = k .old-money; new-money = k .new-money };
         ledger = a;
         statement =

@@ -41,7 +41,7 @@ pub record Statement (c : List ℕ) : Type 0 where
 pub record Encoded (c : List ℕ) : Type 0 where
   pub whole : length c ≡ 4210
   pub keys : ForBoth (λ i. LeavesFree (oldKeyOf i c))
-  pub seed : LeavesFree (phiOf c)
+  pub phi : LeavesFree (phiOf c)
   pub positions : ForBoth (λ i. oldPositionOf i c < treeLeaves)
 
 -- THE PUBLIC VALUES: not both, and none above all money

@@ -333,13 +333,6 @@ fn bytes(s: State) -> [u8; 32]
     ]
 }
 
-// One compression of a block, from the state s.
-pub fn compress_from(s: State, b: &[u8; 64]) -> State
-    ensures { λ r. ⌜ r ≡ compressFrom s (now (b .entry)) ⌝ }
-{
-    absorb(s, b)
-}
-
 // One compression of a block, from the start value, with no padding.
 pub fn compress(b: &[u8; 64]) -> [u8; 32]
     ensures { λ r. ⌜ r ≡ compressOf (now (b .entry)) ⌝ }

@@ -263,7 +263,7 @@ impl Buffer {
 /// Number, place and words of each refusal, as docs/REFUSALS.md has them. Those
 /// of 1 and 3 also say what they mean where no case was judged.
 #[rustfmt::skip]
-const WORDS: [(u8, u8, &str); 36] = [
+const WORDS: [(u8, u8, &str); 37] = [
     (1, 0, "the case has not 4,210 bytes (opening: the roll has no row)"),
     (2, 0, "the ledger is damaged"),
     (3, 0, "fewer than two nullifier rows are free (closing: no roll row is)"),

@@ -1,0 +1,91 @@
+-- What a host keeps between two calls is the ledger: read back from its bytes it is the very one that the call left. So what the demands say of ledgers
+-- holds of a host's three buffers.
+-- Assumes nothing.
+use Prim.Native.Nat.{ℕ, _+_, _*_, _/_, _≤_, _<_, _^_}
+use mathlib.Core.Path.{_≡_, refl, sym, ap, _∙_}
+use mathlib.Core.Bool.{true, false}
+use mathlib.Core.List.{List, [], _∷_}
+use native.Mathlib.Omega.{arith}
+use borrow.Author.Tests.{eqb-true}
+use lib.ListN.{length, length-replicate}
+use Rattle.octets.specs.Rows.{Long}
+use Rattle.octets.proofs.PartLaws.{field-length}
+use Rattle.refusals.specs.Table.{None, rowsIn, first, numbered, isAccepted}
+use Rattle.refusals.proofs.TableLaws.{by-test, first-none}
+use Rattle.tree.specs.Record.{freshOf}
+use Rattle.tree.proofs.Grown.{grown-long}
+use Rattle.casefile.specs.Fields.{commitmentOf}
+use Rattle.ledger.specs.declared.Ledger.{Ledger}
+use Rattle.ledger.specs.Ledgers.{mostNullifiers, mostAnchors, openTable, openedOf, startOf, enteredOf, no2, closeTable, closedOf, rollAfterClose}
+use Rattle.ledger.proofs.Signed.{mag-abs}
+use Rattle.ledger.proofs.Soundness.{Sound, undamaged, at-most}
+use Rattle.ledger.proofs.Endings.{open-refused, open-passed, close-refused, close-passed, close-sound}
+use Rattle.ledgerbytes.specs.Keeping.{isWhole, ledgerOf, bytesOf, written, Fits}
+use Rattle.ledgerbytes.proofs.KeepingLaws.{read-written}
+use Rattle.judge.specs.Judging.{answerOf, ledgerAfter, tableAfter}
+use Rattle.judge.proofs.Outcomes.{refused-ledger}
+use Rattle.demands.proofs.OneCase.{commitment-long, ledger-is, sound-then}
+use Rattle.host.specs.Ledgers.{openLedger, judgeAnswer, judgeLedger, closeAnswer, closeLedger}
+
+-- a ledger that is not damaged fits
+sound-fits : (t r : List ℕ) (l : Ledger) → Sound t r l → length (l .tree .nodes) ≡ 960 → Fits l
+sound-fits t r l s n =
+    let few : l .nullifiers ≤ 2048 = at-most (l .nullifiers) mostNullifiers (length t) (s .fits) in
+    let marks : l .anchors ≤ 1024 = at-most (l .anchors) mostAnchors (length r) (s .roll) in
+    record {
+      nullifiers = omega arith;
+      anchors = omega arith;
+      pool = omega (arith, mag-abs (l .pool .0), s .pool);
+      leaves = omega (arith, s .leaves);
+      nodes = n;
+    }
+
+-- 960 bytes of nodes are read from any bytes
+read-long : (s : List ℕ) → length (ledgerOf s .tree .nodes) ≡ 960
+unfolding ledgerOf
+read-long s = field-length 28 960 s
+
+-- JUDGING
+entered-long : (l : Ledger) (c : List ℕ) (old new : ℕ) → length (l .tree .nodes) ≡ 960
+    → length (enteredOf l (commitmentOf 1 c) (commitmentOf 2 c) old new .tree .nodes) ≡ 960
+unfolding enteredOf Long
+entered-long l c old new h =
+    grown-long (l .tree) (commitmentOf 1 c ∷ commitmentOf 2 c ∷ []) (commitment-long c .0, (commitment-long c .1, tt)) h
+
+pub judged-back : (c s t r : List ℕ) → isWhole s ≡ true → ledgerOf (judgeLedger c s t r) ≡ ledgerAfter c t r (ledgerOf s)
+unfolding judgeAnswer judgeLedger
+judged-back c s t r w =
+    let l = ledgerOf s in
+    by-test (isAccepted (answerOf c t r l))
+    (λ e. let h = eqb-true (answerOf c t r l .number) 0 e in
+    let k = ledger-is c t r l h in
+    rw (w, e) (read-written (ledgerAfter c t r l) (sound-fits (tableAfter c t r l) r (ledgerAfter c t r l) (sound-then c t r l h) (ap (λ (x : Ledger). length (x .tree .nodes)) k ∙ entered-long l c _ _ (read-long s)))))
+    (λ e. rw (w, e) (sym (refused-ledger c t r l e)))
+
+-- CLOSING
+close-before : (t r : List ℕ) (l : Ledger) → isAccepted (first (closeTable t r l)) ≡ true → Sound t r l
+unfolding None closeTable rowsIn numbered no2
+close-before t r l h = undamaged t r l (first-none (closeTable t r l) refl (eqb-true (first (closeTable t r l) .number) 0 h) .0)
+
+pub closed-back : (s t r : List ℕ) → isWhole s ≡ true → ledgerOf (closeLedger s t r) ≡ closedOf t r (ledgerOf s)
+unfolding closeAnswer closeLedger
+closed-back s t r w =
+    let l = ledgerOf s in
+    by-test (isAccepted (first (closeTable t r l)))
+    (λ e. let k = close-passed t r l e .0 in
+    rw (w, e) (read-written (closedOf t r l) (sound-fits t (rollAfterClose t r l) (closedOf t r l) (close-sound t r l e (close-before t r l e)) (ap (λ (x : Ledger). length (x .tree .nodes)) (sym k) ∙ read-long s))))
+    (λ e. rw (w, e) (close-refused t r l e .0))
+
+-- OPENING
+start-fits : (n : ℕ) → n ≤ 1 → Fits (startOf n)
+unfolding startOf freshOf
+start-fits n h =
+    record { nullifiers = omega arith; anchors = omega arith; pool = omega arith; leaves = omega arith; nodes = length-replicate {A = ℕ} 960 0 }
+
+pub opened-back : (s r : List ℕ) → isWhole s ≡ true → ledgerOf (openLedger s r) ≡ openedOf r
+unfolding written
+opened-back s r w =
+    rw w
+    (by-test (isAccepted (first (openTable r)))
+    (λ e. rw (← open-passed r e .0) (read-written (startOf 1) (start-fits 1 (omega arith))))
+    (λ e. rw (← open-refused r e .0) (read-written (startOf 0) (start-fits 0 (omega arith)))))

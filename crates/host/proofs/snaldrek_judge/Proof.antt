@@ -45,10 +45,11 @@ returns-3 c =
     let q = w .before .before in
     let k = q .before in
     let j = k .before .before .before .before in
+    let s = j .before .before .before .before .before .before .before .before .before .args .ledger .now in
     let h = judged k .0 in
     let x = judged k .1 in
     let yes = ap (λ (y : Answered). isAccepted (y .answer)) (sym x) ∙ sym (k .is-accepted .ensures) ∙ not-false _ (q .if2 .left) in
-    (c .code3 .ensures ∙ rw (x, h), (w .write .ensures .1 ∙ rw (x, h, yes), j .judge .ensures .1 ∙ rw (j .before .before .read .ensures, h)))
+    (c .code3 .ensures ∙ rw (x, h), (w .write .ensures .1 ∙ ap (λ (y : Answered). written (y .ledger) s) x ∙ rw (h, yes), j .judge .ensures .1 ∙ rw (j .before .before .read .ensures, h)))
 
 pub snaldrek-judge-spec : {M : Type 1} → statement M
 snaldrek-judge-spec =

@@ -1,19 +1,23 @@
--- What was written is read back: a ledger kept as bytes between two calls is the same ledger.
+-- What was written is read back: a ledger kept as bytes between two calls is the same ledger. And what was read is written as the same bytes.
 -- Assumes nothing.
 use Prim.Native.Nat.{ℕ, _+_, _-_, _≤_, _<_, _^_}
 use mathlib.Core.Path.{_≡_, refl, sym, ap, _∙_}
+use mathlib.Core.Bool.{true}
 use mathlib.Core.List.{List, _++_}
+use native.Mathlib.Decide.{decLe}
+use native.Mathlib.Nat.{lt-of-not-le}
 use native.Mathlib.Omega.{arith}
 use lib.IntN.{ℤ, pos, negsuc}
 use lib.ListN.{length, length-append}
 use lib.Signed.{mag}
-use borrow.Author.Tests.{lt-ltb, le-ltb}
-use Rattle.octets.specs.Parts.{field}
+use borrow.Author.Tests.{lt-ltb, le-ltb, eqb-true}
+use Rattle.octets.specs.Parts.{Bytes, field}
 use Rattle.octets.specs.Numbers.{little, littleBytes}
+use Rattle.octets.proofs.ByteLaws.{field-below, field-again}
 use Rattle.octets.proofs.NumberLaws.{little-bytes, little-bytes-length}
-use Rattle.octets.proofs.PartLaws.{field-left, field-right, field-all}
+use Rattle.octets.proofs.PartLaws.{field-length, field-left, field-right, field-all, field-join}
 use Rattle.ledger.specs.declared.Ledger.{Ledger}
-use Rattle.ledgerbytes.specs.Keeping.{signedOf, bitsOf, ledgerOf, headOf, bytesOf, Fits}
+use Rattle.ledgerbytes.specs.Keeping.{signedOf, bitsOf, ledgerOf, headOf, bytesOf, isWhole, Fits}
 
 pub signed-bits : (z : ℤ) → mag z < 2 ^ 63 → signedOf (bitsOf z) ≡ z
 unfolding signedOf bitsOf
@@ -81,3 +85,41 @@ read-written l h =
     let hv = little-bytes-length 4 (l .tree .leaves) in
     let hs = h .nodes in
     rw (part-1 n a p v s hn ha hp hv hs, part-2 n a p v s hn ha hp hv hs, part-3 n a p v s hn ha hp hv hs, part-4 n a p v s hn ha hp hv hs, part-5 n a p v s hn ha hp hv hs, little-bytes 8 (l .nullifiers) (h .nullifiers), little-bytes 8 (l .anchors) (h .anchors), little-bytes 8 (bitsOf z) (bits-small z (h .pool)), little-bytes 4 (l .tree .leaves) (h .leaves), signed-bits z (h .pool))
+
+-- THE OTHER WAY ROUND. A number of 64 bits is read as a signed one, and its bits are that number again
+module _ (x : ℕ) (h : x < 2 ^ 64) where
+  bits-signed : bitsOf (signedOf x) ≡ x
+  unfolding signedOf bitsOf
+  bits-signed = go (decLe (2 ^ 63) x)
+    where
+      go : Dec (2 ^ 63 ≤ x) → bitsOf (signedOf x) ≡ x
+      go (yes l) = rw (le-ltb x (2 ^ 63) l) (omega arith)
+      go (no l) = rw (lt-ltb x (2 ^ 63) (lt-of-not-le l))
+
+  signed-small : mag (signedOf x) < 2 ^ 63
+  unfolding signedOf
+  signed-small = go (decLe (2 ^ 63) x)
+    where
+      go : Dec (2 ^ 63 ≤ x) → mag (signedOf x) < 2 ^ 63
+      go (yes l) = rw (le-ltb x (2 ^ 63) l) (omega arith)
+      go (no l) = rw (lt-ltb x (2 ^ 63) (lt-of-not-le l)) (omega (arith, lt-of-not-le l))
+
+module _ (s : List ℕ) (h : Bytes s) where
+  -- the ledger that some bytes say is one of the machine's own numbers
+  pub read-fits : Fits (ledgerOf s)
+  unfolding ledgerOf
+  read-fits =
+      record {
+        nullifiers = field-below 0 8 s h;
+        anchors = field-below 8 8 s h;
+        pool = signed-small (little (field 16 8 s)) (field-below 16 8 s h);
+        leaves = field-below 24 4 s h;
+        nodes = field-length 28 960 s;
+      }
+
+  -- and it is written as the very bytes that it was read from
+  pub written-read : isWhole s ≡ true → bytesOf (ledgerOf s) ≡ s
+  unfolding ledgerOf bytesOf headOf
+  written-read w =
+      rw (field-again 0 8 s h, field-again 8 8 s h, bits-signed (little (field 16 8 s)) (field-below 16 8 s h), field-again 16 8 s h, field-again 24 4 s h, field-join 0 8 8 s, field-join 0 16 8 s, field-join 0 24 4 s, field-join 0 28 960 s)
+      (ap (λ (n : ℕ). field 0 n s) (sym (eqb-true (length s) 988 w)) ∙ field-all s)

@@ -1,3 +1,4 @@
+pub mod ByteLaws
 pub mod Filling
 pub mod Joining
 pub mod NumberLaws

@@ -1,4 +1,5 @@
 pub mod AfterOne
+pub mod Bags
 pub mod Carried
 pub mod Demand1
 pub mod Demand2

@@ -1,0 +1,51 @@
+-- BAGS ARE RUNS OF CALLS: what scanning a bag answers and leaves is what the calls for its cases answer and leave, case after case. So the history, its
+-- counts and all three demands hold of bags. By induction on the cases.
+-- Assumes nothing.
+use Prim.Native.Nat.{ℕ, suc}
+use mathlib.Core.Path.{_≡_, refl, sym, ap, _∙_}
+use mathlib.Core.List.{List, [], _∷_, _++_, append-assoc, append-nil}
+use lib.ListN.{length}
+use Rattle.refusals.specs.declared.Answer.{Answer}
+use Rattle.ledger.specs.declared.Ledger.{Ledger}
+use Rattle.judge.specs.Judging.{answerOf, ledgerAfter, tableAfter}
+use Rattle.seal.specs.declared.Calibration.{Calibration}
+use Rattle.bag.specs.Scanning.{Held as Judged, held as judgedSoFar, withCase, judgedAll, judgedCases, heldAfter, report, scannedOf, tableAfterScan, padded}
+use Rattle.demands.specs.Histories.{Call, judged, Held, after, afterAll}
+use Rattle.demands.specs.Bags.{callsOf, answersTo, AsCalls}
+
+-- as many answers as cases
+answers-length : (cs : List (List ℕ)) (h : Held) → length (answersTo cs h) ≡ length cs
+unfolding answersTo
+answers-length [] h = refl
+answers-length (c ∷ cs) h = ap suc (answers-length cs (after (judged c) h))
+
+-- judging does not move the roll
+roll-stays : (cs : List (List ℕ)) (h : Held) → h .roll ≡ afterAll (callsOf cs) h .roll
+unfolding callsOf afterAll after
+roll-stays [] h = refl
+roll-stays (c ∷ cs) h = roll-stays cs (after (judged c) h)
+
+-- what the bag's loop has after some cases, and what the calls give and leave
+cases-called : (cs : List (List ℕ)) (given : List Answer) (h : Held)
+    → judgedAll (h .roll) (judgedSoFar given (h .table) (h .ledger)) cs
+    ≡ judgedSoFar (given ++ answersTo cs h) (afterAll (callsOf cs) h .table) (afterAll (callsOf cs) h .ledger)
+unfolding judgedAll withCase callsOf answersTo afterAll after
+cases-called [] given h = rw (append-nil given)
+cases-called (c ∷ cs) given h =
+    let a = answerOf c (h .table) (h .roll) (h .ledger) in
+    cases-called cs (given ++ (a ∷ [])) (after (judged c) h)
+    ∙ ap (λ (x : List Answer). judgedSoFar x (afterAll (callsOf cs) (after (judged c) h) .table) (afterAll (callsOf cs) (after (judged c) h) .ledger)) (append-assoc given (a ∷ []) (answersTo cs (after (judged c) h)))
+
+-- THE THEOREM, for any bag, any calibration and whatever is held
+pub bag-is-calls : (k : Calibration) (b : List ℕ) (h : Held) → AsCalls k b h
+unfolding scannedOf tableAfterScan heldAfter report
+bag-is-calls k b h =
+    let cs = judgedCases k b in
+    let e = cases-called cs [] h in
+    record {
+      cases = ap (λ (x : Judged). length (x .answers)) e ∙ answers-length cs h;
+      answers = ap (λ (x : Judged). padded (x .answers)) e;
+      table = ap (λ (x : Judged). x .table) e;
+      roll = roll-stays cs h;
+      ledger = ap (λ (x : Judged). x .ledger) e;
+    }

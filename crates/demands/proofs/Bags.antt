@@ -2,16 +2,19 @@
 -- counts and all three demands hold of bags. By induction on the cases.
 -- Assumes nothing.
 use Prim.Native.Nat.{ℕ, suc}
-use mathlib.Core.Path.{_≡_, refl, sym, ap, _∙_}
+use mathlib.Core.Path.{_≡_, refl, ap, ap₂, _∙_}
+use mathlib.Core.Bool.{false}
 use mathlib.Core.List.{List, [], _∷_, _++_, append-assoc, append-nil}
 use lib.ListN.{length}
 use Rattle.refusals.specs.declared.Answer.{Answer}
+use Rattle.refusals.specs.Table.{isAccepted}
 use Rattle.ledger.specs.declared.Ledger.{Ledger}
-use Rattle.judge.specs.Judging.{answerOf, ledgerAfter, tableAfter}
+use Rattle.judge.specs.Judging.{answerOf}
+use Rattle.judge.proofs.Outcomes.{refused-ledger, refused-table}
 use Rattle.seal.specs.declared.Calibration.{Calibration}
 use Rattle.bag.specs.Scanning.{Held as Judged, held as judgedSoFar, withCase, judgedAll, judgedCases, heldAfter, report, scannedOf, tableAfterScan, padded}
 use Rattle.demands.specs.Histories.{Call, judged, Held, after, afterAll}
-use Rattle.demands.specs.Bags.{callsOf, answersTo, AsCalls}
+use Rattle.demands.specs.Bags.{callsOf, answersTo, NoneAccepted, AsCalls}
 
 -- as many answers as cases
 answers-length : (cs : List (List ℕ)) (h : Held) → length (answersTo cs h) ≡ length cs
@@ -49,3 +52,14 @@ bag-is-calls k b h =
       roll = roll-stays cs h;
       ledger = ap (λ (x : Judged). x .ledger) e;
     }
+
+-- CASES OF WHICH NONE IS ACCEPTED leave all that is held
+refused-stays : (c : List ℕ) (h : Held) → isAccepted (answerOf c (h .table) (h .roll) (h .ledger)) ≡ false → after (judged c) h ≡ h
+unfolding after
+refused-stays c h e =
+    ap₂ (λ (t : List ℕ) (l : Ledger). record { table = t; roll = h .roll; ledger = l }) (refused-table c (h .table) (h .roll) (h .ledger) e) (refused-ledger c (h .table) (h .roll) (h .ledger) e)
+
+pub none-accepted : (cs : List (List ℕ)) (h : Held) → NoneAccepted (answersTo cs h) → afterAll (callsOf cs) h ≡ h
+unfolding NoneAccepted answersTo callsOf afterAll
+none-accepted [] h n = refl
+none-accepted (c ∷ cs) h n = none-accepted cs (after (judged c) h) (n .1) ∙ refused-stays c h (n .0)

@@ -1,3 +1,6 @@
+mod Reports
 pub mod DayLaws
 pub mod KeptLaws
-mod Reports
+pub mod Shifts
+pub mod TallyLaws
+pub mod Untouched

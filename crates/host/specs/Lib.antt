@@ -2,3 +2,4 @@ pub mod Answers
 pub mod Bags
 pub mod Books
 pub mod Ledgers
+pub mod Shifts

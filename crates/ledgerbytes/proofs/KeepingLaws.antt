@@ -69,6 +69,16 @@ module _ (a b c d e : List ℕ) (ha : length a ≡ 8) (hb : length b ≡ 8) (hc 
   part-5 : field 28 960 (a ++ b ++ c ++ d ++ e) ≡ e
   part-5 = last 28 960 (a ++ b ++ c ++ d) e four he
 
+-- a ledger that fits takes 988 bytes
+pub bytes-long : (l : Ledger) → Fits l → length (bytesOf l) ≡ 988
+unfolding bytesOf headOf
+bytes-long l h =
+    let n = littleBytes 8 (l .nullifiers) in
+    let a = littleBytes 8 (l .anchors) in
+    let p = littleBytes 8 (bitsOf (l .pool .0)) in
+    let v = littleBytes 4 (l .tree .leaves) in
+    omega (arith, length-append (n ++ a ++ p ++ v) (l .tree .nodes), four n a p v (l .tree .nodes) (little-bytes-length 8 (l .nullifiers)) (little-bytes-length 8 (l .anchors)) (little-bytes-length 8 (bitsOf (l .pool .0))) (little-bytes-length 4 (l .tree .leaves)) (h .nodes), h .nodes)
+
 -- the law
 pub read-written : (l : Ledger) → Fits l → ledgerOf (bytesOf l) ≡ l
 unfolding ledgerOf bytesOf headOf

@@ -1,18 +1,13 @@
 -- No answer and no ledger depends on what is carried and never checked: ephemeral key, proof and ciphertexts.
 -- Assumes nothing.
 use Prim.Native.Nat.{ℕ}
-use mathlib.Core.Path.{_≡_, refl, sym, ap, ap₂, _∙_}
+use mathlib.Core.Path.{_≡_, refl, sym, ap, _∙_}
 use mathlib.Core.List.{List}
 use Rattle.octets.specs.Numbers.{little}
-use Rattle.refusals.specs.declared.Answer.{Answer}
-use Rattle.refusals.specs.Table.{Row, first, lower}
 use Rattle.casefile.specs.Agreement.{AgreeButCarried, isChecked, isCarried}
-use Rattle.casefile.specs.Layout.{partOf}
 use Rattle.casefile.specs.Fields.{vpubOldOf, vpubNewOf, anchorOf, nullifierOf, commitmentOf}
-use Rattle.statement.specs.CaseTable.{caseTable}
 use Rattle.statement.proofs.Carried.{carried-table}
 use Rattle.ledger.specs.declared.Ledger.{Ledger}
-use Rattle.ledger.specs.Ledgers.{ledgerTable}
 use Rattle.judge.specs.Judging.{answerOf, ledgerAfter, tableAfter}
 use Rattle.judge.proofs.Halves.{answer-lower}
 

@@ -2,12 +2,11 @@
 -- applies and none above it does; and what is held is the same after a refusal as before.
 -- Assumes nothing.
 use Prim.Native.Nat.{ℕ}
-use mathlib.Core.Path.{_≡_, refl, sym, ap, _∙_}
-use mathlib.Core.Bool.{Bool, true, false}
+use mathlib.Core.Path.{_≡_, refl}
 use mathlib.Core.List.{List, [], _∷_}
 use borrow.Author.Tests.{ne-eqb}
 use Rattle.refusals.specs.declared.Answer.{Answer}
-use Rattle.refusals.specs.Table.{Row, answer, accepted, isAccepted, first, None, Decides, rowsIn}
+use Rattle.refusals.specs.Table.{Row, answer, accepted, None, Decides, rowsIn}
 use Rattle.refusals.proofs.TableLaws.{decides-first, first-decides, none-first, first-none}
 use Rattle.statement.specs.CaseTable.{no1, no4, no5, no7, no9, no10, no11, no12, no13, no14, no15, no16}
 use Rattle.ledger.specs.declared.Ledger.{Ledger}

@@ -1,34 +1,27 @@
 -- THE SECOND DEMAND: a case is accepted exactly when it is Valid, and after acceptance the nullifiers, the tree and the pool are what the rules give.
 -- Assumes nothing.
-use Prim.Native.Nat.{ℕ, _+_, _≤_}
+use Prim.Native.Nat.{ℕ, _+_}
 use mathlib.Core.Path.{_≡_, refl, sym, ap, _∙_}
-use mathlib.Core.Logic.{_⊎_, inl, inr, ⊎-elim}
-use mathlib.Core.Bool.{Bool, true, false, not, false≢true, true≢false}
-use mathlib.Core.List.{List, [], _∷_, List·Memᴰ}
-use native.Mathlib.Omega.{arith}
-use borrow.Author.Tests.{eqb-true, eq-eqb, ltb-false, le-ltb, not-false}
-use lib.Dec.{ltb}
-use lib.IntN.{ℤ, pos, _+ℤ_, _-ℤ_}
+use mathlib.Core.Bool.{true, false, not, false≢true}
+use mathlib.Core.List.{List, List·Memᴰ}
+use borrow.Author.Tests.{ltb-false, le-ltb, not-false}
 use lib.ListN.{length}
-use Rattle.octets.proofs.PartLaws.{field-length}
 use Rattle.refusals.specs.declared.Answer.{Answer}
-use Rattle.refusals.specs.Table.{Row, accepted, isAccepted, first, None, rowsIn, numbered, lower}
+use Rattle.refusals.specs.Table.{Row, accepted, first, None, rowsIn, numbered, lower}
 use Rattle.refusals.proofs.TableLaws.{by-test, first-none, none-first}
 use Rattle.refusals.proofs.TwoTables.{lower-accepts}
-use Rattle.casefile.specs.Layout.{description, oldNote, newNote, lengths, total, caseLength, proofLength, partOf}
-use Rattle.casefile.specs.Fields.{vpubOldOf, vpubNewOf, anchorOf, nullifierOf, commitmentOf}
-use Rattle.tree.specs.Record.{grown}
+use Rattle.casefile.specs.Layout.{description, oldNote, newNote, lengths, total, caseLength, proofLength}
+use Rattle.casefile.specs.Fields.{anchorOf, nullifierOf}
 use Rattle.statement.specs.CaseTable.{oldCommitmentOf, hSigOf, caseTable}
 use Rattle.statement.specs.Clauses.{Clauses}
 use Rattle.statement.proofs.Clauses.{accepted-clauses, clauses-accepted}
 use Rattle.ledger.specs.declared.Ledger.{Ledger}
-use Rattle.ledger.specs.Sorted.{insert}
-use Rattle.ledger.specs.Rows.{byteOrder, among, entered}
-use Rattle.ledger.specs.Ledgers.{mostNullifiers, roomIn, spentRows, anchorRows, damaged, no2, no3, no6, no8, ledgerTable, enteredOf}
+use Rattle.ledger.specs.Rows.{among}
+use Rattle.ledger.specs.Ledgers.{mostNullifiers, roomIn, spentRows, anchorRows, no2, no3, no6, no8, ledgerTable}
 use Rattle.ledger.proofs.Soundness.{among-member, member-among}
-use Rattle.judge.specs.Judging.{answerOf, ledgerAfter, tableAfter}
+use Rattle.judge.specs.Judging.{answerOf}
 use Rattle.judge.proofs.Halves.{answer-lower}
-use Rattle.demands.specs.Validity.{Statement, Encoded, PublicValues, Admitted, Valid}
+use Rattle.demands.specs.Validity.{Admitted, Valid}
 
 -- the ledger's own table passes exactly when it admits the case
 module _ (c t r : List ℕ) (l : Ledger) where

@@ -1,14 +1,14 @@
 -- THE THIRD DEMAND: two cases, judged one right after the other on a ledger that has room for both. Where they have no nullifier in common, each is
--- answered as if the other were not there, and two that pass end alike in either order. Where they have one in common and either would pass, only the
--- earlier one does: the later is refused with 8.
+-- answered as if the other were not there, and two that are valid both pass and end alike in either order. Where they have one in common and each is
+-- valid, only the earlier one passes: the later is refused with 8.
 -- Assumes nothing.
-use Prim.Native.Nat.{ℕ, _+_, _*_, _≤_}
+use Prim.Native.Nat.{ℕ, _+_, _≤_}
 use mathlib.Core.Path.{_≡_, refl, sym, ap, ap₂, _∙_}
 use mathlib.Core.Logic.{_⊎_, inl, inr, ⊎-elim}
-use mathlib.Core.Bool.{Bool, true, false, not}
-use mathlib.Core.List.{List, [], _∷_}
+use mathlib.Core.Bool.{true, false}
+use mathlib.Core.List.{List}
 use native.Mathlib.Omega.{arith}
-use borrow.Author.Tests.{eqb-true, eq-eqb, le-ltb}
+use borrow.Author.Tests.{eqb-true, le-ltb}
 use lib.Dec.{ltb}
 use lib.ListN.{length}
 use Rattle.octets.specs.Parts.{same}
@@ -19,7 +19,6 @@ use Rattle.refusals.specs.Table.{Row, answer, accepted, isAccepted, first, rows
 use Rattle.refusals.proofs.TableLaws.{by-test}
 use Rattle.refusals.proofs.TwoTables.{lower-accepts}
 use Rattle.casefile.specs.Fields.{hasLength, vpubOldOf, vpubNewOf, anchorOf, nullifierOf, commitmentOf}
-use Rattle.tree.specs.Record.{grown}
 use Rattle.statement.specs.CaseTable.{no1, caseTable}
 use Rattle.statement.proofs.Clauses.{unlike, accepted-clauses, clauses-accepted}
 use Rattle.ledger.specs.declared.Ledger.{Ledger}
@@ -31,10 +30,10 @@ use Rattle.ledger.proofs.TableLaws.{either-order}
 use Rattle.judge.specs.Judging.{judgeTable, answerOf, ledgerAfter, tableAfter}
 use Rattle.judge.proofs.Halves.{answer-lower}
 use Rattle.judge.proofs.Outcomes.{refused-ledger, refused-table}
-use Rattle.demands.specs.Pairs.{ShareNone, IsOneOf, ShareSome, at-1, at-2, RoomForTwo, SameEnd, OneOfTwo}
-use Rattle.demands.specs.Validity.{Valid}
+use Rattle.demands.specs.Histories.{Held, after, answerOn, ValidOn}
+use Rattle.demands.specs.Pairs.{ShareNone, IsOneOf, ShareSome, at-1, at-2, RoomForTwo, SameEnd, OrderFree, OneOfTwo}
 use Rattle.demands.proofs.Demand2.{accepted-valid, valid-accepted}
-use Rattle.demands.proofs.OneCase.{sound-before, ready-before, table-is, ledger-is, length-then, rows-then, sound-then, other-then, own-then, nullifier-long}
+use Rattle.demands.proofs.OneCase.{sound-before, ready-before, table-is, ledger-is, length-then, sound-then, other-then, own-then, nullifier-long}
 
 -- a file of the wrong length is refused with 1 by any ledger
 wrong-length : (d t r : List ℕ) (l : Ledger) → hasLength d ≡ false → answerOf d t r l ≡ answer 1 0
@@ -47,7 +46,7 @@ right-length c t r l h =
     by-test (hasLength c) (λ e. e) (λ e. let z : _≡_ {A = ℕ} 1 0 = ap (λ (a : Answer). a .number) (sym (wrong-length c t r l e)) ∙ h in absurd (omega arith))
 
 -- EACH GETS THE ANSWER IT WOULD GET ALONE: d after c, and d alone
-module _ (c d t r : List ℕ) (l : Ledger) (room : RoomForTwo t l) where
+module _ (c d t r : List ℕ) (l : Ledger) (room : l .nullifiers + 4 ≤ roomIn mostNullifiers (length t)) where
   abbrev t′ : List ℕ
   t′ = tableAfter c t r l
 
@@ -92,7 +91,7 @@ module _ (c d t r : List ℕ) (l : Ledger) (room : RoomForTwo t l) where
         let u = unshared none e in
         rw (still-sound, was-sound, still-room, had-room, same-roll, u .0, u .1)
 
-  pub alone : ShareNone c d → answerOf d t′ r l′ ≡ answerOf d t r l
+  alone : ShareNone c d → answerOf d t′ r l′ ≡ answerOf d t r l
   alone none =
       by-test (isAccepted (answerOf c t r l))
       (λ e. accepted-first (eqb-true (answerOf c t r l .number) 0 e))
@@ -124,13 +123,13 @@ module _ (c d t r : List ℕ) (l : Ledger) (room : RoomForTwo t l) where
     spent-second e f = answer-lower d t′ r l′ ∙ rw (own-passes, still-sound h, still-room h, anchored, e, f)
 
     -- the nullifier of d at place 1 is one of c's
-    pub refused-at-1 : (nullifierOf 1 c ≡ nullifierOf 1 d) ⊎ (nullifierOf 2 c ≡ nullifierOf 1 d) → answerOf d t′ r l′ ≡ answer 8 1
+    refused-at-1 : (nullifierOf 1 c ≡ nullifierOf 1 d) ⊎ (nullifierOf 2 c ≡ nullifierOf 1 d) → answerOf d t′ r l′ ≡ answer 8 1
     refused-at-1 s =
         let own = own-then c t r l h in
         spent-first (⊎-elim (λ (e : nullifierOf 1 c ≡ nullifierOf 1 d). rw (sym e) (own .0)) (λ (e : nullifierOf 2 c ≡ nullifierOf 1 d). rw (sym e) (own .1)) s)
 
     -- the one at place 1 is not, and the one at place 2 is
-    pub refused-at-2 : (nullifierOf 1 c ≡ nullifierOf 1 d → ⊥) → (nullifierOf 2 c ≡ nullifierOf 1 d → ⊥) → (nullifierOf 1 c ≡ nullifierOf 2 d) ⊎ (nullifierOf 2 c ≡ nullifierOf 2 d)
+    refused-at-2 : (nullifierOf 1 c ≡ nullifierOf 1 d → ⊥) → (nullifierOf 2 c ≡ nullifierOf 1 d → ⊥) → (nullifierOf 1 c ≡ nullifierOf 2 d) ⊎ (nullifierOf 2 c ≡ nullifierOf 2 d)
         → answerOf d t′ r l′ ≡ answer 8 2
     refused-at-2 p q s =
         let own = own-then c t r l h in
@@ -144,25 +143,34 @@ module _ (c d t r : List ℕ) (l : Ledger) (room : RoomForTwo t l) where
       second-passes : answerOf d t′ r l′ .number ≡ 0
       second-passes = ap (λ (a : Answer). a .number) (alone none) ∙ k
 
-      pub table-both : tableAfter d t′ r l′ ≡ entered (l .nullifiers + 2) (entered (l .nullifiers) t (nullifierOf 1 c) (nullifierOf 2 c)) (nullifierOf 1 d) (nullifierOf 2 d)
+      table-both : tableAfter d t′ r l′ ≡ entered (l .nullifiers + 2) (entered (l .nullifiers) t (nullifierOf 1 c) (nullifierOf 2 c)) (nullifierOf 1 d) (nullifierOf 2 d)
       table-both =
           table-is d t′ r l′ second-passes
           ∙ ap₂ (λ (n : ℕ) (u : List ℕ). entered n u (nullifierOf 1 d) (nullifierOf 2 d)) (count-then h) (table-is c t r l h)
 
-      pub ledger-both : ledgerAfter d t′ r l′ ≡ enteredOf (enteredOf l (commitmentOf 1 c) (commitmentOf 2 c) (vpubOldOf c) (vpubNewOf c)) (commitmentOf 1 d) (commitmentOf 2 d) (vpubOldOf d) (vpubNewOf d)
+      ledger-both : ledgerAfter d t′ r l′ ≡ enteredOf (enteredOf l (commitmentOf 1 c) (commitmentOf 2 c) (vpubOldOf c) (vpubNewOf c)) (commitmentOf 1 d) (commitmentOf 2 d) (vpubOldOf d) (vpubNewOf d)
       ledger-both =
           ledger-is d t′ r l′ second-passes
           ∙ ap (λ (m : Ledger). enteredOf m (commitmentOf 1 d) (commitmentOf 2 d) (vpubOldOf d) (vpubNewOf d)) (ledger-is c t r l h)
 
--- BOTH ORDERS END ALIKE
+-- two cases that share no nullifier share none when they change places
 turned : (c d : List ℕ) → ShareNone c d → ShareNone d c
 turned c d none e f =
     let n = none f e in
     ((λ q. n .0 .0 (sym q), λ q. n .1 .0 (sym q)), (λ q. n .0 .1 (sym q), λ q. n .1 .1 (sym q)))
 
-pub same-end : (c d t r : List ℕ) (l : Ledger) → RoomForTwo t l → ShareNone c d → answerOf c t r l .number ≡ 0 → answerOf d t r l .number ≡ 0 → SameEnd c d t r l
-unfolding Long
-same-end c d t r l room none h k =
+passes : (c : List ℕ) (b : Held) → ValidOn c b → answerOn c b .number ≡ 0
+passes c b v = ap (λ (a : Answer). a .number) (valid-accepted c (b .table) (b .roll) (b .ledger) v)
+
+-- BOTH ORDERS END ALIKE
+same-end : (c d : List ℕ) (b : Held) → RoomForTwo b → ShareNone c d → ValidOn c b → ValidOn d b → SameEnd c d b
+unfolding Long after
+same-end c d b room none v w =
+    let t = b .table in
+    let r = b .roll in
+    let l = b .ledger in
+    let h = passes c b v in
+    let k = passes d b w in
     let cd = ledger-both c d t r l room h k none in
     let dc = ledger-both d c t r l room k h (turned c d none) in
     let c1 = commitmentOf 1 c in
@@ -176,28 +184,32 @@ same-end c d t r l room none h k =
           table-both c d t r l room h k none
           ∙ either-order (l .nullifiers) t (nullifierOf 1 c) (nullifierOf 2 c) (nullifierOf 1 d) (nullifierOf 2 d) (within (l .nullifiers + 4) mostNullifiers (length t) room) (nc .0, (nc .1, (nd .0, (nd .1, tt)))) (ready-before c t r l h .fresh) (ready-before d t r l k .fresh)
           ∙ sym (table-both d c t r l room k h (turned c d none));
+      roll = refl;
       nullifiers = ap (λ (m : Ledger). m .nullifiers) cd ∙ same-count l c1 c2 (vpubOldOf c) (vpubNewOf c) d1 d2 (vpubOldOf d) (vpubNewOf d) ∙ ap (λ (m : Ledger). m .nullifiers) (sym dc);
       anchors = ap (λ (m : Ledger). m .anchors) cd ∙ same-anchors l c1 c2 (vpubOldOf c) (vpubNewOf c) d1 d2 (vpubOldOf d) (vpubNewOf d) ∙ ap (λ (m : Ledger). m .anchors) (sym dc);
       pool = ap (λ (m : Ledger). m .pool .0) cd ∙ same-pool l c1 c2 (vpubOldOf c) (vpubNewOf c) d1 d2 (vpubOldOf d) (vpubNewOf d) ∙ ap (λ (m : Ledger). m .pool .0) (sym dc);
-      c-first = ap (λ (m : Ledger). m .tree) cd ∙ one-record l c1 c2 (vpubOldOf c) (vpubNewOf c) d1 d2 (vpubOldOf d) (vpubNewOf d);
-      d-first = ap (λ (m : Ledger). m .tree) dc ∙ one-record l d1 d2 (vpubOldOf d) (vpubNewOf d) c1 c2 (vpubOldOf c) (vpubNewOf c);
+      tree-c-d = ap (λ (m : Ledger). m .tree) cd ∙ one-record l c1 c2 (vpubOldOf c) (vpubNewOf c) d1 d2 (vpubOldOf d) (vpubNewOf d);
+      tree-d-c = ap (λ (m : Ledger). m .tree) dc ∙ one-record l d1 d2 (vpubOldOf d) (vpubNewOf d) c1 c2 (vpubOldOf c) (vpubNewOf c);
     }
 
--- THE SAME IN THE WORDS OF THE SECOND DEMAND, so that a judge who refuses everything does not meet it: two Valid cases are both accepted, in either
--- order, and end alike
-pub both-accepted : (c d t r : List ℕ) (l : Ledger) → RoomForTwo t l → ShareNone c d → Valid c t r l → Valid d t r l
-    → (answerOf c t r l ≡ accepted) × ((answerOf d (tableAfter c t r l) r (ledgerAfter c t r l) ≡ accepted) × SameEnd c d t r l)
-both-accepted c d t r l room none v w =
-    let p = valid-accepted c t r l v in
-    let q = valid-accepted d t r l w in
-    (p, (alone c d t r l room none ∙ q, same-end c d t r l room none (ap (λ (a : Answer). a .number) p) (ap (λ (a : Answer). a .number) q)))
-
-pub one-accepted : (c d t r : List ℕ) (l : Ledger) → RoomForTwo t l → Valid c t r l → Valid d t r l → (nullifierOf 1 c ≡ nullifierOf 1 d) ⊎ (nullifierOf 2 c ≡ nullifierOf 1 d)
-    → (answerOf c t r l ≡ accepted) × (answerOf d (tableAfter c t r l) r (ledgerAfter c t r l) ≡ answer 8 1)
-one-accepted c d t r l room v w s =
-    let p = valid-accepted c t r l v in
-    let q = valid-accepted d t r l w in
-    (p, refused-at-1 c d t r l room (ap (λ (a : Answer). a .number) p) (ap (λ (a : Answer). a .number) q) s)
+-- THE THEOREM
+pub order-free : (c d : List ℕ) (b : Held) → RoomForTwo b → ShareNone c d → OrderFree c d b
+unfolding after
+order-free c d b room none =
+    let t = b .table in
+    let r = b .roll in
+    let l = b .ledger in
+    let c-second = alone d c t r l room (turned c d none) in
+    let d-second = alone c d t r l room none in
+    record {
+      c-second = c-second;
+      d-second = d-second;
+      both =
+          λ v w.
+          let p = valid-accepted c t r l v in
+          let q = valid-accepted d t r l w in
+          record { c-first = p; then-d = d-second ∙ q; d-first = q; then-c = c-second ∙ p; same-end = same-end c d b room none v w };
+    }
 
 -- WHICHEVER NULLIFIER THEY SHARE, the earlier one passes and the later is refused, at its lowest place that was spent
 one-of : (c x : List ℕ) → IsOneOf c x ⊎ (IsOneOf c x → ⊥)
@@ -206,20 +218,21 @@ one-of c x =
     (λ e. inl (inl (same-eq (nullifierOf 1 c) x e)))
     (λ e. by-test (same (nullifierOf 2 c) x) (λ f. inl (inr (same-eq (nullifierOf 2 c) x f))) (λ f. inr (λ s. ⊎-elim (unlike .0 e) (unlike .0 f) s)))
 
-pub shared-refused : (c d t r : List ℕ) (l : Ledger) → RoomForTwo t l → Valid c t r l → Valid d t r l → ShareSome c d → OneOfTwo c d t r l
-shared-refused c d t r l room v w s = go (one-of c (nullifierOf 1 d)) s
+pub shared-refused : (c d : List ℕ) (b : Held) → RoomForTwo b → ValidOn c b → ValidOn d b → ShareSome c d → OneOfTwo c d b
+unfolding after
+shared-refused c d b room v w s = go (one-of c (nullifierOf 1 d)) s
   where
-    p : answerOf c t r l ≡ accepted
-    p = valid-accepted c t r l v
+    p : answerOn c b ≡ accepted
+    p = valid-accepted c (b .table) (b .roll) (b .ledger) v
 
-    h : answerOf c t r l .number ≡ 0
-    h = ap (λ (a : Answer). a .number) p
+    h : answerOn c b .number ≡ 0
+    h = passes c b v
 
-    k : answerOf d t r l .number ≡ 0
-    k = ap (λ (a : Answer). a .number) (valid-accepted d t r l w)
+    k : answerOn d b .number ≡ 0
+    k = passes d b w
 
-    go : IsOneOf c (nullifierOf 1 d) ⊎ (IsOneOf c (nullifierOf 1 d) → ⊥) → ShareSome c d → OneOfTwo c d t r l
-    go (inl one) q = record { c-passes = p; place = 1; lowest = at-1 one; d-refused = refused-at-1 c d t r l room h k one }
+    go : IsOneOf c (nullifierOf 1 d) ⊎ (IsOneOf c (nullifierOf 1 d) → ⊥) → ShareSome c d → OneOfTwo c d b
+    go (inl one) q = record { c-passes = p; place = 1; lowest = at-1 one; d-refused = refused-at-1 c d (b .table) (b .roll) (b .ledger) room h k one }
     go (inr none) (inl one) = absurd (none one)
     go (inr none) (inr two) =
-        record { c-passes = p; place = 2; lowest = at-2 none two; d-refused = refused-at-2 c d t r l room h k (λ e. none (inl e)) (λ e. none (inr e)) two }
+        record { c-passes = p; place = 2; lowest = at-2 none two; d-refused = refused-at-2 c d (b .table) (b .roll) (b .ledger) room h k (λ e. none (inl e)) (λ e. none (inr e)) two }

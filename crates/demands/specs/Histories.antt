@@ -8,6 +8,7 @@ use mathlib.Core.Bool.{Bool, true, false, cond, _&&_}
 use mathlib.Core.List.{List, [], _∷_, _++_, List·Memᴰ}
 use lib.IntN.{ℤ, pos, _+ℤ_, _-ℤ_}
 use lib.ListN.{length, drop}
+use Rattle.refusals.specs.declared.Answer.{Answer}
 use Rattle.refusals.specs.Table.{first, isAccepted}
 use Rattle.casefile.specs.Fields.{vpubOldOf, vpubNewOf, nullifierOf, commitmentOf}
 use Rattle.nodes.specs.CommitmentTree.{treeRoot}
@@ -17,6 +18,7 @@ use Rattle.ledger.specs.Sorted.{rising, insert}
 use Rattle.ledger.specs.Rows.{byteOrder}
 use Rattle.ledger.specs.Ledgers.{spentRows, anchorRows, damaged, closeTable, closedOf, rollAfterClose, openedOf, rollAfterOpen}
 use Rattle.judge.specs.Judging.{answerOf, ledgerAfter, tableAfter}
+use Rattle.demands.specs.Validity.{Valid}
 
 -- THE CALLS: a case judged, by its bytes, or a block closed
 pub data Call : Type 0 where
@@ -35,9 +37,16 @@ spentIn b = spentRows (b .table) (b .ledger)
 abbrev pub anchorsIn : Held → List (List ℕ)
 anchorsIn b = anchorRows (b .roll) (b .ledger)
 
+-- how a case is answered on it, and that the rules take the case
+abbrev pub answerOn : List ℕ → Held → Answer
+answerOn c b = answerOf c (b .table) (b .roll) (b .ledger)
+
+abbrev pub ValidOn : List ℕ → Held → Type 0
+ValidOn c b = Valid c (b .table) (b .roll) (b .ledger)
+
 -- whether a call is accepted
 unfoldable pub passes : Call → Held → Bool
-passes (judged c) b = isAccepted (answerOf c (b .table) (b .roll) (b .ledger))
+passes (judged c) b = isAccepted (answerOn c b)
 passes closed b = isAccepted (first (closeTable (b .table) (b .roll) (b .ledger)))
 
 -- what is held after a call, and after some, in order; the judge does not write to the roll, nor closing to the table

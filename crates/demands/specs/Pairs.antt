@@ -1,4 +1,5 @@
--- Two cases on one ledger, as the third demand speaks of them.
+-- Two cases, judged one right after the other on one ledger, as the third demand speaks of them. What is said of them is the same when they change
+-- places.
 -- Assumes nothing.
 use Prim.Native.Nat.{ℕ, _+_, _≤_}
 use mathlib.Core.Path.{_≡_}
@@ -10,9 +11,8 @@ use Rattle.units.specs.Pairs.{ForBoth}
 use Rattle.refusals.specs.Table.{answer, accepted}
 use Rattle.casefile.specs.Fields.{hasLength, nullifierOf, commitmentOf}
 use Rattle.tree.specs.Record.{grown}
-use Rattle.ledger.specs.declared.Ledger.{Ledger}
 use Rattle.ledger.specs.Ledgers.{mostNullifiers, roomIn}
-use Rattle.judge.specs.Judging.{answerOf, ledgerAfter, tableAfter}
+use Rattle.demands.specs.Histories.{judged, Held, after, answerOn, ValidOn}
 
 -- they share no nullifier; a file of the wrong length has none
 abbrev pub ShareNone : List ℕ → List ℕ → Type 0
@@ -31,22 +31,41 @@ pub data LowestShared (c d : List ℕ) : ℕ → Type 0 where
   at-2 : (IsOneOf c (nullifierOf 1 d) → ⊥) → IsOneOf c (nullifierOf 2 d) → LowestShared c d 2
 
 -- the table has two free rows for each
-abbrev pub RoomForTwo : List ℕ → Ledger → Type 0
-RoomForTwo t l = l .nullifiers + 4 ≤ roomIn mostNullifiers (length t)
+abbrev pub RoomForTwo : Held → Type 0
+RoomForTwo b = b .ledger .nullifiers + 4 ≤ roomIn mostNullifiers (length (b .table))
 
--- c and then d, and d and then c, end alike: in the table's bytes, the counts and the pool (the roll does not move). To the record that both began with
--- the one order adds c's commitments and then d's, the other d's and then c's
-pub record SameEnd (c d t r : List ℕ) (l : Ledger) : Type 0 where
-  pub table : tableAfter d (tableAfter c t r l) r (ledgerAfter c t r l) ≡ tableAfter c (tableAfter d t r l) r (ledgerAfter d t r l)
-  pub nullifiers : ledgerAfter d (tableAfter c t r l) r (ledgerAfter c t r l) .nullifiers ≡ ledgerAfter c (tableAfter d t r l) r (ledgerAfter d t r l) .nullifiers
-  pub anchors : ledgerAfter d (tableAfter c t r l) r (ledgerAfter c t r l) .anchors ≡ ledgerAfter c (tableAfter d t r l) r (ledgerAfter d t r l) .anchors
-  pub pool : ledgerAfter d (tableAfter c t r l) r (ledgerAfter c t r l) .pool .0 ≡ ledgerAfter c (tableAfter d t r l) r (ledgerAfter d t r l) .pool .0
-  pub c-first : ledgerAfter d (tableAfter c t r l) r (ledgerAfter c t r l) .tree ≡ grown (l .tree) (commitmentOf 1 c ∷ commitmentOf 2 c ∷ commitmentOf 1 d ∷ commitmentOf 2 d ∷ [])
-  pub d-first : ledgerAfter c (tableAfter d t r l) r (ledgerAfter d t r l) .tree ≡ grown (l .tree) (commitmentOf 1 d ∷ commitmentOf 2 d ∷ commitmentOf 1 c ∷ commitmentOf 2 c ∷ [])
+-- what is held after c and then d
+abbrev pub afterBoth : List ℕ → List ℕ → Held → Held
+afterBoth c d b = after (judged d) (after (judged c) b)
 
--- c passes, and d after it is refused with 8, at its lowest place that c spent
-pub record OneOfTwo (c d t r : List ℕ) (l : Ledger) : Type 0 where
-  pub c-passes : answerOf c t r l ≡ accepted
+-- THE SAME END: the bytes of table and roll, the counts and the pool. To the record that both orders began with the one adds c's commitments and then
+-- d's, the other d's and then c's
+pub record SameEnd (c d : List ℕ) (b : Held) : Type 0 where
+  pub table : afterBoth c d b .table ≡ afterBoth d c b .table
+  pub roll : afterBoth c d b .roll ≡ afterBoth d c b .roll
+  pub nullifiers : afterBoth c d b .ledger .nullifiers ≡ afterBoth d c b .ledger .nullifiers
+  pub anchors : afterBoth c d b .ledger .anchors ≡ afterBoth d c b .ledger .anchors
+  pub pool : afterBoth c d b .ledger .pool .0 ≡ afterBoth d c b .ledger .pool .0
+  pub tree-c-d : afterBoth c d b .ledger .tree ≡ grown (b .ledger .tree) (commitmentOf 1 c ∷ commitmentOf 2 c ∷ commitmentOf 1 d ∷ commitmentOf 2 d ∷ [])
+  pub tree-d-c : afterBoth d c b .ledger .tree ≡ grown (b .ledger .tree) (commitmentOf 1 d ∷ commitmentOf 2 d ∷ commitmentOf 1 c ∷ commitmentOf 2 c ∷ [])
+
+-- both are accepted, in either order, and end alike
+pub record BothPass (c d : List ℕ) (b : Held) : Type 0 where
+  pub c-first : answerOn c b ≡ accepted
+  pub then-d : answerOn d (after (judged c) b) ≡ accepted
+  pub d-first : answerOn d b ≡ accepted
+  pub then-c : answerOn c (after (judged d) b) ≡ accepted
+  pub same-end : SameEnd c d b
+
+-- THE ORDER DOES NOT MATTER: to be first is to be alone, and the second is answered as if it were first; two that are valid both pass
+pub record OrderFree (c d : List ℕ) (b : Held) : Type 0 where
+  pub c-second : answerOn c (after (judged d) b) ≡ answerOn c b
+  pub d-second : answerOn d (after (judged c) b) ≡ answerOn d b
+  pub both : ValidOn c b → ValidOn d b → BothPass c d b
+
+-- ONE OF TWO: c passes, and d after it is refused with 8, at its lowest place that c spent
+pub record OneOfTwo (c d : List ℕ) (b : Held) : Type 0 where
+  pub c-passes : answerOn c b ≡ accepted
   pub place : ℕ
   pub lowest : LowestShared c d place
-  pub d-refused : answerOf d (tableAfter c t r l) r (ledgerAfter c t r l) ≡ answer 8 place
+  pub d-refused : answerOn d (after (judged c) b) ≡ answer 8 place

@@ -1,4 +1,4 @@
--- THE SECOND DEMAND: a case is accepted exactly when it is Valid, and after acceptance the nullifiers, the tree and the pool are what the rules give.
+-- THE SECOND DEMAND, on any ledger in memory: a case is accepted exactly when it is Valid.
 -- Assumes nothing.
 use Prim.Native.Nat.{ℕ, _+_}
 use mathlib.Core.Path.{_≡_, refl, sym, ap, _∙_}
@@ -21,9 +21,9 @@ use Rattle.ledger.specs.Ledgers.{mostNullifiers, roomIn, spentRows, anchorRows,
 use Rattle.ledger.proofs.Soundness.{among-member, member-among}
 use Rattle.judge.specs.Judging.{answerOf}
 use Rattle.judge.proofs.Halves.{answer-lower}
-use Rattle.demands.specs.Validity.{Admitted, Valid}
+use Rattle.demands.specs.Validity.{Valid}
 
--- the ledger's own table passes exactly when it admits the case
+-- the ledger's own table, and the case's
 module _ (c t r : List ℕ) (l : Ledger) where
   abbrev ledgers : List Row
   ledgers = ledgerTable t r l (anchorOf c) (nullifierOf 1 c) (nullifierOf 2 c)
@@ -38,72 +38,73 @@ module _ (c t r : List ℕ) (l : Ledger) where
   no-member : (x : List ℕ) (rows : List (List ℕ)) → (List·Memᴰ x rows → ⊥) → among x rows ≡ false
   no-member x rows h = by-test (among x rows) (λ e. absurd (h (among-member x rows e))) (λ e. e)
 
-  admitted : Clauses c → first ledgers .number ≡ 0 → Admitted c t r l
+  -- a valid case passes the ledger's own table
+  admits : Valid c t r l → first ledgers ≡ accepted
   unfolding None ledgerTable rowsIn no2 no3 no6 no8
-  admitted k h =
-      let n = first-none ledgers ledger-numbers h in
-      record {
-        undamaged = n .0;
-        room = ltb-false (roomIn mostNullifiers (length t)) (l .nullifiers + 2) (n .1 .0);
-        anchor = among-member (anchorOf c) (anchorRows r l) (not-false (among (anchorOf c) (anchorRows r l)) (n .1 .1 .0));
-        distinct = k .distinct;
-        unspent = (not-among (nullifierOf 1 c) (spentRows t l) (n .1 .1 .1 .0), not-among (nullifierOf 2 c) (spentRows t l) (n .1 .1 .1 .1 .0));
-      }
-
-  admits : Admitted c t r l → first ledgers ≡ accepted
-  unfolding None ledgerTable rowsIn no2 no3 no6 no8
-  admits a =
+  admits v =
+      let u = v .rules .unspent in
       none-first ledgers
-      (a .undamaged, (le-ltb (roomIn mostNullifiers (length t)) (l .nullifiers + 2) (a .room), (ap not (member-among (anchorOf c) (anchorRows r l) (a .anchor)), (no-member (nullifierOf 1 c) (spentRows t l) (a .unspent .0), (no-member (nullifierOf 2 c) (spentRows t l) (a .unspent .1), tt)))))
+      (v .undamaged, (le-ltb (roomIn mostNullifiers (length t)) (l .nullifiers + 2) (v .room), (ap not (member-among (anchorOf c) (anchorRows r l) (v .rules .anchor)), (no-member (nullifierOf 1 c) (spentRows t l) (u .0), (no-member (nullifierOf 2 c) (spentRows t l) (u .1), tt)))))
 
-  -- the clauses of the case alone are the encoding, the public values and the statement
+  -- the clauses of the case alone are the encoding, the public values, that the nullifiers differ, and the statement
   clauses-of : Valid c t r l → Clauses c
   unfolding oldCommitmentOf hSigOf caseLength proofLength lengths description oldNote newNote total
   clauses-of v =
+      let e = v .rules .encoding in
+      let p = v .rules .public-values in
+      let s = v .rules .statement in
       record {
-        whole = v .encoding .whole;
-        one-sided = v .public-values .one-sided;
-        old-money = v .public-values .old-money;
-        new-money = v .public-values .new-money;
-        distinct = v .ledger .distinct;
-        ranges = ((v .encoding .keys .0, v .encoding .positions .0), (v .encoding .keys .1, v .encoding .positions .1));
-        phi-free = v .encoding .phi;
-        paths = v .statement .merkle-path-validity;
-        balance = v .statement .balance;
-        nullifiers = v .statement .nullifier-integrity;
-        addresses = v .statement .spend-authority;
-        tags = v .statement .non-malleability;
-        rhos = v .statement .uniqueness-of-rho;
-        commitments = v .statement .commitment-integrity;
+        whole = e .whole;
+        one-sided = p .one-sided;
+        old-money = p .old-money;
+        new-money = p .new-money;
+        distinct = v .rules .distinct;
+        ranges = ((e .keys .0, e .positions .0), (e .keys .1, e .positions .1));
+        phi-free = e .phi;
+        paths = s .merkle-path-validity;
+        balance = s .balance;
+        nullifiers = s .nullifier-integrity;
+        addresses = s .spend-authority;
+        tags = s .non-malleability;
+        rhos = s .uniqueness-of-rho;
+        commitments = s .commitment-integrity;
       }
 
-  valid-of : Clauses c → Admitted c t r l → Valid c t r l
-  unfolding oldCommitmentOf hSigOf caseLength proofLength lengths description oldNote newNote total
-  valid-of k a =
+  -- and with what the ledger's table says of a case that passed, they make it valid
+  valid-of : Clauses c → first ledgers .number ≡ 0 → Valid c t r l
+  unfolding oldCommitmentOf hSigOf caseLength proofLength lengths description oldNote newNote total None ledgerTable rowsIn no2 no3 no6 no8
+  valid-of k h =
+      let n = first-none ledgers ledger-numbers h in
       record {
-        encoding =
-            record { whole = k .whole; keys = (k .ranges .0 .0, k .ranges .1 .0); phi = k .phi-free; positions = (k .ranges .0 .1, k .ranges .1 .1) };
-        public-values = record { one-sided = k .one-sided; old-money = k .old-money; new-money = k .new-money };
-        ledger = a;
-        statement =
+        rules =
             record {
-              merkle-path-validity = k .paths;
-              balance = k .balance;
-              nullifier-integrity = k .nullifiers;
-              spend-authority = k .addresses;
-              non-malleability = k .tags;
-              uniqueness-of-rho = k .rhos;
-              commitment-integrity = k .commitments;
+              encoding =
+                  record { whole = k .whole; keys = (k .ranges .0 .0, k .ranges .1 .0); phi = k .phi-free; positions = (k .ranges .0 .1, k .ranges .1 .1) };
+              public-values = record { one-sided = k .one-sided; old-money = k .old-money; new-money = k .new-money };
+              anchor = among-member (anchorOf c) (anchorRows r l) (not-false (among (anchorOf c) (anchorRows r l)) (n .1 .1 .0));
+              distinct = k .distinct;
+              unspent = (not-among (nullifierOf 1 c) (spentRows t l) (n .1 .1 .1 .0), not-among (nullifierOf 2 c) (spentRows t l) (n .1 .1 .1 .1 .0));
+              statement =
+                  record {
+                    merkle-path-validity = k .paths;
+                    balance = k .balance;
+                    nullifier-integrity = k .nullifiers;
+                    spend-authority = k .addresses;
+                    non-malleability = k .tags;
+                    uniqueness-of-rho = k .rhos;
+                    commitment-integrity = k .commitments;
+                  };
             };
+        undamaged = n .0;
+        room = ltb-false (roomIn mostNullifiers (length t)) (l .nullifiers + 2) (n .1 .0);
       }
 
   -- ACCEPTED EXACTLY WHEN VALID
   pub accepted-valid : answerOf c t r l .number ≡ 0 → Valid c t r l
   accepted-valid h =
       let both = lower-accepts (first (caseTable c)) (first ledgers) (ap (λ (a : Answer). a .number) (sym (answer-lower c t r l)) ∙ h) in
-      let k = accepted-clauses c (both .0) in
-      valid-of k (admitted k (both .1))
+      valid-of (accepted-clauses c (both .0)) (both .1)
 
   pub valid-accepted : Valid c t r l → answerOf c t r l ≡ accepted
   valid-accepted v =
-      answer-lower c t r l ∙ ap (λ (a : Answer). lower a (first ledgers)) (clauses-accepted c (clauses-of v)) ∙ ap (lower accepted) (admits (v .ledger))
+      answer-lower c t r l ∙ ap (λ (a : Answer). lower a (first ledgers)) (clauses-accepted c (clauses-of v)) ∙ ap (lower accepted) (admits v)

@@ -112,7 +112,7 @@ module _ (c d t r : List ℕ) (l : Ledger) (room : l .nullifiers + 4 ≤ roomIn 
         (lower-accepts (first (caseTable d)) (first (ledgerTable t r l (anchorOf d) (nullifierOf 1 d) (nullifierOf 2 d))) (ap (λ (a : Answer). a .number) (sym (answer-lower d t r l)) ∙ k) .0))
 
     anchored : among (anchorOf d) (anchorRows r l′) ≡ true
-    anchored = rw (same-roll h) (member-among (anchorOf d) (anchorRows r l) (accepted-valid d t r l k .ledger .anchor))
+    anchored = rw (same-roll h) (member-among (anchorOf d) (anchorRows r l) (accepted-valid d t r l k .rules .anchor))
 
     spent-first : among (nullifierOf 1 d) (spentRows t′ l′) ≡ true → answerOf d t′ r l′ ≡ answer 8 1
     unfolding ledgerTable rowsIn no2 no3 no6 no8 first
@@ -133,7 +133,7 @@ module _ (c d t r : List ℕ) (l : Ledger) (room : l .nullifiers + 4 ≤ roomIn 
         → answerOf d t′ r l′ ≡ answer 8 2
     refused-at-2 p q s =
         let own = own-then c t r l h in
-        let unspent = accepted-valid d t r l k .ledger .unspent .0 in
+        let unspent = accepted-valid d t r l k .rules .unspent .0 in
         let before : among (nullifierOf 1 d) (spentRows t l) ≡ false = by-test (among (nullifierOf 1 d) (spentRows t l)) (λ e. absurd (unspent (among-member (nullifierOf 1 d) (spentRows t l) e))) (λ e. e) in
         spent-second (other-then c t r l h (nullifierOf 1 d) (unlike .1 p) (unlike .1 q) ∙ before)
         (⊎-elim (λ (e : nullifierOf 1 c ≡ nullifierOf 2 d). rw (sym e) (own .0)) (λ (e : nullifierOf 2 c ≡ nullifierOf 2 d). rw (sym e) (own .1)) s)

@@ -47,7 +47,7 @@ module _ (c t r : List ℕ) (l : Ledger) (h : answerOf c t r l .number ≡ 0) wh
   valid = accepted-valid c t r l h
 
   pub sound-before : Sound t r l
-  sound-before = undamaged t r l (valid .ledger .undamaged)
+  sound-before = undamaged t r l (valid .undamaged)
 
   pub ready-before : Ready t l (nullifierOf 1 c) (nullifierOf 2 c) (vpubOldOf c) (vpubNewOf c)
   ready-before = ready c t r l (accepted-front c t r l h)
@@ -65,7 +65,7 @@ module _ (c t r : List ℕ) (l : Ledger) (h : answerOf c t r l .number ≡ 0) wh
   rows-then = rw (table-is, ledger-is) (rows-after t r l (nullifierOf 1 c) (nullifierOf 2 c) (commitmentOf 1 c) (commitmentOf 2 c) (vpubOldOf c) (vpubNewOf c) sound-before ready-before (nullifier-long c .0) (nullifier-long c .1))
 
   pub sound-then : Sound (tableAfter c t r l) r (ledgerAfter c t r l)
-  sound-then = rw (table-is, ledger-is) (sound-after t r l (nullifierOf 1 c) (nullifierOf 2 c) (commitmentOf 1 c) (commitmentOf 2 c) (vpubOldOf c) (vpubNewOf c) sound-before ready-before (nullifier-long c .0) (nullifier-long c .1) (moved c (valid .public-values)))
+  sound-then = rw (table-is, ledger-is) (sound-after t r l (nullifierOf 1 c) (nullifierOf 2 c) (commitmentOf 1 c) (commitmentOf 2 c) (vpubOldOf c) (vpubNewOf c) sound-before ready-before (nullifier-long c .0) (nullifier-long c .1) (moved c (valid .rules .public-values)))
 
   -- another row is in the table as before, and the two nullifiers are in it now
   pub other-then : (z : List ℕ) → same (nullifierOf 1 c) z ≡ false → same (nullifierOf 2 c) z ≡ false

@@ -1,4 +1,4 @@
--- When the public rules take a Sprout JoinSplit whose notes lie open, on a given ledger. The clauses of the JoinSplit statement have the names that
+-- When the public rules take a Sprout JoinSplit whose notes lie open, and when a ledger in memory does. The clauses of the JoinSplit statement have the names that
 -- source document 003 gives them in its section 5.6. The balance is that of 003 and of document 01's refusal 11, two equal sums of any size: the
 -- ceiling of 2 ^ 64 - 1 that the published rules put on them is not asked yet. i is 1 or 2; ForBoth says a clause of both.
 -- Assumes nothing.
@@ -50,16 +50,17 @@ pub record PublicValues (c : List ℕ) : Type 0 where
   pub old-money : vpubOldOf c ≤ maxMoney
   pub new-money : vpubNewOf c ≤ maxMoney
 
--- THE LEDGER'S SIDE: a known anchor, nullifiers that differ and are unspent, room for them; a damaged ledger takes nothing (house)
-pub record Admitted (c t r : List ℕ) (l : Ledger) : Type 0 where
-  pub undamaged : damaged t r l ≡ false
-  pub room : l .nullifiers + 2 ≤ roomIn mostNullifiers (length t)
-  pub anchor : List·Memᴰ (anchorOf c) (anchorRows r l)
-  pub distinct : nullifierOf 1 c ≡ nullifierOf 2 c → ⊥
-  pub unspent : ForBoth (λ i. List·Memᴰ (nullifierOf i c) (spentRows t l) → ⊥)
-
-pub record Valid (c t r : List ℕ) (l : Ledger) : Type 0 where
+-- THE PUBLIC RULES, over the roots that an anchor may be and the nullifiers that were spent: nothing of memory, room or damage
+pub record JoinSplitRules (c : List ℕ) (roots spent : List (List ℕ)) : Type 0 where
   pub encoding : Encoded c
   pub public-values : PublicValues c
-  pub ledger : Admitted c t r l
+  pub anchor : List·Memᴰ (anchorOf c) roots
+  pub distinct : nullifierOf 1 c ≡ nullifierOf 2 c → ⊥
+  pub unspent : ForBoth (λ i. List·Memᴰ (nullifierOf i c) spent → ⊥)
   pub statement : Statement c
+
+-- THE SAME IN MEMORY, on the rows of a roll and of a table, with what the house asks beside: an undamaged ledger, and room for both nullifiers
+pub record Valid (c t r : List ℕ) (l : Ledger) : Type 0 where
+  pub rules : JoinSplitRules c (anchorRows r l) (spentRows t l)
+  pub undamaged : damaged t r l ≡ false
+  pub room : l .nullifiers + 2 ≤ roomIn mostNullifiers (length t)

@@ -3,7 +3,7 @@
 use Prim.Native.Nat.{ℕ, _+_}
 use mathlib.Core.Path.{_≡_, refl, ap}
 use mathlib.Core.Logic.{_⊎_, inl, inr}
-use mathlib.Core.List.{List, List·Memᴰ}
+use mathlib.Core.List.{List, [], _∷_, _++_, List·Memᴰ, List·Memᴰ·head, List·Memᴰ·tail, List·Memᴰ·cases-cons, List·Memᴰ·append-cases, List·Memᴰ·eq-of-singleton, Memᴰ·append-left, Memᴰ·append-right}
 use native.Mathlib.Omega.{arith}
 use lib.ListN.{length}
 use Rattle.casefile.specs.Fields.{nullifierOf}
@@ -15,39 +15,45 @@ use Rattle.ledger.proofs.ByteOrder.{byte-total}
 use Rattle.ledger.proofs.Members.{member-insert, insert-member}
 use Rattle.ledger.proofs.Soundness.{within}
 use Rattle.ledger.proofs.TableLaws.{entered-drop}
-use Rattle.judge.specs.Judging.{answerOf}
-use Rattle.demands.specs.Histories.{Held, judged, after, SpentWith, AfterOne}
+use Rattle.demands.specs.Histories.{Held, judged, after, answerOn, nullifiersOf, AfterOne}
 use Rattle.demands.proofs.OneCase.{nullifier-long, ready-before, table-is, ledger-is, length-then, rows-then, sound-then}
 
--- the members of rows with a case's two nullifiers put in
-module _ (c : List ℕ) (rows : List (List ℕ)) (z : List ℕ) where
+-- rows with a case's two nullifiers put in have those two for members, beside their own
+module _ (c : List ℕ) (rows : List (List ℕ)) where
   abbrev both : List (List ℕ)
   both = insert byteOrder (nullifierOf 2 c) (insert byteOrder (nullifierOf 1 c) rows)
 
-  member-both : List·Memᴰ z both → SpentWith c rows z
-  member-both m = second (member-insert byteOrder byte-total (nullifierOf 2 c) z (insert byteOrder (nullifierOf 1 c) rows) m)
-    where
-      first : (z ≡ nullifierOf 1 c) ⊎ List·Memᴰ z rows → SpentWith c rows z
-      first (inl e) = inl e
-      first (inr n) = inr (inr n)
+  own : (z : List ℕ) → (z ≡ nullifierOf 1 c) ⊎ (z ≡ nullifierOf 2 c) → List·Memᴰ z (rows ++ nullifiersOf c)
+  own z (inl e) = Memᴰ·append-right rows (List·Memᴰ·head e)
+  own z (inr e) = Memᴰ·append-right rows (List·Memᴰ·tail (List·Memᴰ·head e))
 
-      second : (z ≡ nullifierOf 2 c) ⊎ List·Memᴰ z (insert byteOrder (nullifierOf 1 c) rows) → SpentWith c rows z
-      second (inl e) = inr (inl e)
+  member-both : (z : List ℕ) → List·Memᴰ z both → List·Memᴰ z (rows ++ nullifiersOf c)
+  member-both z m = second (member-insert byteOrder byte-total (nullifierOf 2 c) z (insert byteOrder (nullifierOf 1 c) rows) m)
+    where
+      first : (z ≡ nullifierOf 1 c) ⊎ List·Memᴰ z rows → List·Memᴰ z (rows ++ nullifiersOf c)
+      first (inl e) = own z (inl e)
+      first (inr n) = Memᴰ·append-left (nullifiersOf c) n
+
+      second : (z ≡ nullifierOf 2 c) ⊎ List·Memᴰ z (insert byteOrder (nullifierOf 1 c) rows) → List·Memᴰ z (rows ++ nullifiersOf c)
+      second (inl e) = own z (inr e)
       second (inr n) = first (member-insert byteOrder byte-total (nullifierOf 1 c) z rows n)
 
-  both-member : SpentWith c rows z → List·Memᴰ z both
-  both-member s = insert-member byteOrder byte-total (nullifierOf 2 c) z (insert byteOrder (nullifierOf 1 c) rows) (go s)
+  both-member : (z : List ℕ) → List·Memᴰ z (rows ++ nullifiersOf c) → List·Memᴰ z both
+  both-member z m = insert-member byteOrder byte-total (nullifierOf 2 c) z (insert byteOrder (nullifierOf 1 c) rows) (go (List·Memᴰ·append-cases rows m))
     where
       under : (z ≡ nullifierOf 1 c) ⊎ List·Memᴰ z rows → List·Memᴰ z (insert byteOrder (nullifierOf 1 c) rows)
-      under m = insert-member byteOrder byte-total (nullifierOf 1 c) z rows m
+      under n = insert-member byteOrder byte-total (nullifierOf 1 c) z rows n
 
-      go : SpentWith c rows z → (z ≡ nullifierOf 2 c) ⊎ List·Memᴰ z (insert byteOrder (nullifierOf 1 c) rows)
-      go (inl e) = inr (under (inl e))
-      go (inr (inl e)) = inl e
-      go (inr (inr n)) = inr (under (inr n))
+      two : (z ≡ nullifierOf 1 c) ⊎ List·Memᴰ z (nullifierOf 2 c ∷ []) → (z ≡ nullifierOf 2 c) ⊎ List·Memᴰ z (insert byteOrder (nullifierOf 1 c) rows)
+      two (inl e) = inr (under (inl e))
+      two (inr n) = inl (List·Memᴰ·eq-of-singleton n)
+
+      go : List·Memᴰ z rows ⊎ List·Memᴰ z (nullifiersOf c) → (z ≡ nullifierOf 2 c) ⊎ List·Memᴰ z (insert byteOrder (nullifierOf 1 c) rows)
+      go (inl n) = inr (under (inr n))
+      go (inr n) = two (List·Memᴰ·cases-cons n)
 
 -- THE THEOREM
-pub after-one : (c : List ℕ) (b : Held) → answerOf c (b .table) (b .roll) (b .ledger) .number ≡ 0 → AfterOne c b (after (judged c) b)
+pub after-one : (c : List ℕ) (b : Held) → answerOn c b .number ≡ 0 → AfterOne c b (after (judged c) b)
 unfolding after enteredOf
 after-one c b h =
     let t = b .table in
@@ -57,8 +63,7 @@ after-one c b h =
     let g = ready-before c t r l h in
     let n = nullifier-long c in
     record {
-      spent-only = λ z m. member-both c _ z (rw (rows-then c t r l h) at m);
-      spent-all = λ z s. rw (rows-then c t r l h) (both-member c _ z s);
+      spent = λ z. (λ m. member-both c _ z (rw (rows-then c t r l h) at m), λ m. rw (rows-then c t r l h) (both-member c _ z m));
       rises = sound-then c t r l h .rises;
       count = ap (λ (m : Ledger). m .nullifiers) e;
       table-length = length-then c t r l h;

@@ -1,144 +1,261 @@
--- ANY RUN OF CALLS on a ledger that was opened: after each of them the nullifiers, the tree, the roll and the pool are what the rules give, and every
--- count is the history's own. A list of calls is any list, so what holds after all of them holds after each.
+-- ANY RUN OF CALLS on a ledger that was opened. By the rules they lead to one past, and what is held shows it; the next case is accepted exactly when it
+-- is valid after that past and there is room. A list of calls is any list, so what holds after all of them holds after each.
 -- Assumes nothing.
-use Prim.Native.Nat.{ℕ, _+_, _*_, _≤_}
-use mathlib.Core.Path.{_≡_, sym, ap, ap₂, _∙_}
-use mathlib.Core.Bool.{Bool, true, false, cond, _&&_, and-true, and-false}
-use mathlib.Core.List.{List, [], _∷_, _++_}
-use native.Mathlib.Nat.{add-zero, mul-zero, mul-add}
+use Prim.Native.Nat.{ℕ, _*_, _≤_}
+use mathlib.Core.Path.{_≡_, refl, sym, ap, ap₂, _∙_}
+use mathlib.Core.Logic.{Iff·symm, Iff·trans, ⊎-elim}
+use mathlib.Core.Bool.{true, false, true≢false}
+use mathlib.Core.List.{List, [], _∷_, _++_, List·Memᴰ, List·Memᴰ·append-cases, Memᴰ·append-left, Memᴰ·append-right}
 use native.Mathlib.Omega.{arith}
-use borrow.Author.Tests.{eqb-true, eq-eqb}
+use borrow.Author.Tests.{eqb-true, eq-eqb, lt-leb}
 use lib.IntN.{ℤ, pos, _+ℤ_, _-ℤ_}
 use lib.ListN.{length, length-append}
 use Rattle.octets.specs.Rows.{rowsOf, Long}
+use Rattle.octets.proofs.PartLaws.{pasted-length}
 use Rattle.octets.proofs.RowLaws.{rows-length, long-append}
 use Rattle.refusals.specs.declared.Answer.{Answer}
-use Rattle.refusals.specs.Table.{first, isAccepted}
-use Rattle.refusals.proofs.TableLaws.{by-test}
-use Rattle.casefile.specs.Fields.{vpubOldOf, vpubNewOf, nullifierOf, commitmentOf}
+use Rattle.refusals.specs.Table.{accepted, first, isAccepted, None, rowsIn}
+use Rattle.refusals.proofs.TableLaws.{by-test, none-first}
+use Rattle.casefile.specs.Fields.{vpubOldOf, vpubNewOf, nullifierOf}
 use Rattle.nodes.specs.CommitmentTree.{treeRoot}
 use Rattle.tree.specs.declared.Tree.{Tree}
 use Rattle.tree.specs.Record.{freshOf, grown, recordRoot}
 use Rattle.tree.proofs.Grown.{record-root, root-long, grown-append}
 use Rattle.ledger.specs.declared.Ledger.{Ledger}
-use Rattle.ledger.specs.Sorted.{insert}
-use Rattle.ledger.specs.Rows.{byteOrder}
-use Rattle.ledger.specs.Ledgers.{mostNullifiers, spentRows, anchorRows, closeTable, startOf, openTable}
+use Rattle.ledger.specs.Ledgers.{mostNullifiers, mostAnchors, roomIn, spentRows, anchorRows, damaged, no2, closeTable, startOf, openTable}
 use Rattle.ledger.proofs.Soundness.{Sound, sound-undamaged, at-most}
 use Rattle.ledger.proofs.Endings.{close-refused, close-passed, close-sound, close-rows, open-roomy, open-passed, open-sound, open-rows}
-use Rattle.judge.specs.Judging.{answerOf}
 use Rattle.judge.proofs.Outcomes.{refused-ledger, refused-table}
-use Rattle.demands.specs.Histories.{Call, judged, closed, Held, spentIn, anchorsIn, passes, after, afterAll, opened, Past, freshPast, withCall, pastAfter, pastAll, Shows, isCase, isBlock, counted, Counts}
-use Rattle.demands.proofs.OneCase.{commitment-long, rows-then, sound-then}
+use Rattle.demands.specs.Validity.{JoinSplitRules}
+use Rattle.demands.specs.Histories.{Call, judged, closed, Held, spentIn, anchorsIn, answerOn, ValidOn, after, afterAll, opened, SameMembers, nullifiersOf, commitmentsOf, Past, freshPast, withCase, withBlock, ValidAfter, RoomForCase, RoomForRoot, Leads, no-call, case-taken, case-not-taken, block-closed, block-not-closed, Shows, History, NextCase}
+use Rattle.demands.proofs.Demand2.{accepted-valid, valid-accepted}
+use Rattle.demands.proofs.OneCase.{commitment-long, sound-then}
 use Rattle.demands.proofs.AfterOne.{after-one}
 
--- what every call keeps, from which all that is shown follows
-record Kept (b : Held) (p : Past) : Type 0 where
-  sound : Sound (b .table) (b .roll) (b .ledger)
-  spent : spentIn b ≡ p .spent
-  count : b .ledger .nullifiers ≡ length (p .leaves)
-  tree : b .ledger .tree ≡ grown freshOf (p .leaves)
-  long : Long (p .leaves)
-  anchors : anchorsIn b ≡ p .anchors
-  pool : b .ledger .pool .0 ≡ p .pool
+-- two sets that are the same are so with the same rows beside them
+with-more : (xs ys rows : List (List ℕ)) → SameMembers xs ys → SameMembers (xs ++ rows) (ys ++ rows)
+with-more xs ys rows same z = (go xs ys (same z .0), go ys xs (same z .1))
+  where
+    go : (us vs : List (List ℕ)) → (List·Memᴰ z us → List·Memᴰ z vs) → List·Memᴰ z (us ++ rows) → List·Memᴰ z (vs ++ rows)
+    go us vs to m =
+        ⊎-elim (λ (n : List·Memᴰ z us). Memᴰ·append-left rows (to n)) (λ (n : List·Memᴰ z rows). Memᴰ·append-right vs n) (List·Memᴰ·append-cases us m)
 
-module _ (b : Held) (p : Past) (k : Kept b p) where
-  -- no more leaves than the table has rows, so the tree's theorem applies
-  rooted : recordRoot (b .ledger .tree) ≡ treeRoot (p .leaves)
-  rooted =
-      let few : b .ledger .nullifiers ≤ 2048 = at-most (b .ledger .nullifiers) mostNullifiers (length (b .table)) (k .sound .fits) in
-      let e = k .count in
-      ap recordRoot (k .tree) ∙ record-root (p .leaves) (omega arith) (k .long)
+-- the rules look at no more of the nullifiers spent than which they are
+same-rules : (c : List ℕ) {roots spent : List (List ℕ)} (roots′ spent′ : List (List ℕ)) → roots ≡ roots′ → SameMembers spent spent′
+    → JoinSplitRules c roots spent → JoinSplitRules c roots′ spent′
+same-rules c roots′ spent′ e same u =
+    record {
+      encoding = u .encoding;
+      public-values = u .public-values;
+      anchor = rw e at (u .anchor);
+      distinct = u .distinct;
+      unspent = (λ m. u .unspent .0 (same (nullifierOf 1 c) .1 m), λ m. u .unspent .1 (same (nullifierOf 2 c) .1 m));
+      statement = u .statement;
+    }
 
-  shown : Shows b p
-  unfolding spentRows anchorRows
-  shown =
-      record {
-        spent = k .spent;
-        spent-count = sym (rows-length (b .ledger .nullifiers) (b .table)) ∙ ap length (k .spent);
-        leaf-count = k .sound .leaves ∙ k .count;
-        two-counts = k .count;
-        tree = k .tree;
-        root = rooted;
-        anchors = k .anchors;
-        anchor-count = sym (rows-length (b .ledger .anchors) (b .roll)) ∙ ap length (k .anchors);
-        pool = k .pool;
-        undamaged = sound-undamaged (b .table) (b .roll) (b .ledger) (k .sound);
-      }
+-- how a closing is answered
+abbrev closingOn : Held → Answer
+closingOn b = first (closeTable (b .table) (b .roll) (b .ledger))
 
-  -- an accepted case
-  case-kept : (c : List ℕ) → answerOf c (b .table) (b .roll) (b .ledger) .number ≡ 0 → Kept (after (judged c) b) (withCall (judged c) p)
-  unfolding after withCall anchorRows Long
-  case-kept c h =
-      let a = after-one c b h in
-      let two = commitmentOf 1 c ∷ commitmentOf 2 c ∷ [] in
-      let e = k .count in
-      record {
-        sound = sound-then c (b .table) (b .roll) (b .ledger) h;
-        spent =
-            rows-then c (b .table) (b .roll) (b .ledger) h
-            ∙ ap (λ (rows : List (List ℕ)). insert byteOrder (nullifierOf 2 c) (insert byteOrder (nullifierOf 1 c) rows)) (k .spent);
-        count = a .count ∙ omega (arith, length-append (p .leaves) two);
-        tree = a .tree ∙ ap (λ (u : Tree). grown u two) (k .tree) ∙ sym (grown-append freshOf (p .leaves) two);
-        long = long-append (p .leaves) two (k .long) (commitment-long c .0, (commitment-long c .1, tt));
-        anchors = ap (λ (n : ℕ). rowsOf n (b .roll)) (a .anchors) ∙ k .anchors;
-        pool = a .pool ∙ ap (λ (z : ℤ). z +ℤ pos (vpubOldOf c) -ℤ pos (vpubNewOf c)) (k .pool);
-      }
-
-  -- a block that was closed
-  block-kept : isAccepted (first (closeTable (b .table) (b .roll) (b .ledger))) ≡ true → Kept (after closed b) (withCall closed p)
-  unfolding after withCall spentRows
-  block-kept h =
-      let e = sym (close-passed (b .table) (b .roll) (b .ledger) h .0) in
-      record {
-        sound = close-sound (b .table) (b .roll) (b .ledger) h (k .sound);
-        spent = ap (λ (m : Ledger). rowsOf (m .nullifiers) (b .table)) e ∙ k .spent;
-        count = ap (λ (m : Ledger). m .nullifiers) e ∙ k .count;
-        tree = ap (λ (m : Ledger). m .tree) e ∙ k .tree;
-        long = k .long;
-        anchors =
-            close-rows (b .table) (b .roll) (b .ledger) h (ap length rooted ∙ root-long (p .leaves))
-            ∙ ap₂ (λ (rows : List (List ℕ)) (x : List ℕ). rows ++ (x ∷ [])) (k .anchors) rooted;
-        pool = ap (λ (m : Ledger). m .pool .0) e ∙ k .pool;
-      }
-
-  call-kept : (x : Call) → passes x b ≡ true → Kept (after x b) (withCall x p)
-  unfolding passes
-  call-kept (judged c) h = case-kept c (eqb-true (answerOf c (b .table) (b .roll) (b .ledger) .number) 0 h)
-  call-kept closed h = block-kept h
+-- no answer both refuses and accepts
+not-both : (a : Answer) → isAccepted a ≡ false → a ≡ accepted → ⊥
+not-both a h e = true≢false (sym (ap isAccepted e) ∙ h)
 
 -- a refused call leaves all as it was
-untouched : (x : Call) (b : Held) → passes x b ≡ false → after x b ≡ b
-unfolding passes after
-untouched (judged c) b h =
+untouched-case : (c : List ℕ) (b : Held) → isAccepted (answerOn c b) ≡ false → after (judged c) b ≡ b
+unfolding after
+untouched-case c b h =
     ap₂ (λ (t : List ℕ) (l : Ledger). record { table = t; roll = b .roll; ledger = l }) (refused-table c (b .table) (b .roll) (b .ledger) h) (refused-ledger c (b .table) (b .roll) (b .ledger) h)
-untouched closed b h =
+
+untouched-block : (b : Held) → isAccepted (closingOn b) ≡ false → after closed b ≡ b
+unfolding after
+untouched-block b h =
     let e = close-refused (b .table) (b .roll) (b .ledger) h in
     ap₂ (λ (r : List ℕ) (l : Ledger). record { table = b .table; roll = r; ledger = l }) (sym (e .1)) (sym (e .0))
 
--- one call, and all of them
-next-kept : (x : Call) (b : Held) (p : Past) → Kept b p → Kept (after x b) (pastAfter x b p)
-unfolding pastAfter
-next-kept x b p k = by-test (passes x b) (λ e. rw e (call-kept b p k x e)) (λ e. rw (e, untouched x b e) k)
+-- on a table and a roll of some lengths, which no call changes
+module _ (tableLength rollLength : ℕ) where
+  -- what every call keeps, from which all that is shown follows
+  record Kept (b : Held) (p : Past) : Type 0 where
+    sound : Sound (b .table) (b .roll) (b .ledger)
+    table-length : length (b .table) ≡ tableLength
+    roll-length : length (b .roll) ≡ rollLength
+    spent : SameMembers (spentIn b) (p .spent)
+    count : b .ledger .nullifiers ≡ length (p .leaves)
+    tree : b .ledger .tree ≡ grown freshOf (p .leaves)
+    long : Long (p .leaves)
+    anchors : anchorsIn b ≡ p .roots
+    pool : b .ledger .pool .0 ≡ p .pool
 
-all-kept : (calls : List Call) (b : Held) (p : Past) → Kept b p → Kept (afterAll calls b) (pastAll calls b p)
-unfolding afterAll pastAll
-all-kept [] b p k = k
-all-kept (x ∷ xs) b p k = all-kept xs (after x b) (pastAfter x b p) (next-kept x b p k)
+  module _ (b : Held) (p : Past) (k : Kept b p) where
+    -- no more leaves than the table has rows, so the tree's theorem applies
+    rooted : recordRoot (b .ledger .tree) ≡ treeRoot (p .leaves)
+    rooted =
+        let few : b .ledger .nullifiers ≤ 2048 = at-most (b .ledger .nullifiers) mostNullifiers (length (b .table)) (k .sound .fits) in
+        let e = k .count in
+        ap recordRoot (k .tree) ∙ record-root (p .leaves) (omega arith) (k .long)
+
+    anchor-count : b .ledger .anchors ≡ length (p .roots)
+    unfolding anchorRows
+    anchor-count = sym (rows-length (b .ledger .anchors) (b .roll)) ∙ ap length (k .anchors)
+
+    undamaged-still : damaged (b .table) (b .roll) (b .ledger) ≡ false
+    undamaged-still = sound-undamaged (b .table) (b .roll) (b .ledger) (k .sound)
+
+    shown : Shows b p
+    shown =
+        record {
+          spent = k .spent;
+          rises = k .sound .rises;
+          spent-count = k .count;
+          leaf-count = k .sound .leaves ∙ k .count;
+          tree = k .tree;
+          root = rooted;
+          anchors = k .anchors;
+          anchor-count = anchor-count;
+          pool = k .pool;
+          undamaged = undamaged-still;
+        }
+
+    -- A CASE is valid in memory exactly when it is valid after the past and there is room
+    from-memory : (c : List ℕ) → ValidOn c b → ValidAfter p c × RoomForCase tableLength p
+    from-memory c v =
+        let room = v .room in
+        (same-rules c (p .roots) (p .spent) (k .anchors) (k .spent) (v .rules), rw (k .count, k .table-length) at room)
+
+    in-memory : (c : List ℕ) → ValidAfter p c → RoomForCase tableLength p → ValidOn c b
+    in-memory c v room =
+        record {
+          rules = same-rules c (anchorsIn b) (spentIn b) (sym (k .anchors)) (λ z. Iff·symm (k .spent z)) v;
+          undamaged = undamaged-still;
+          room = rw (k .count, k .table-length) room;
+        }
+
+    case-accepted : (c : List ℕ) → answerOn c b .number ≡ 0 → ValidAfter p c × RoomForCase tableLength p
+    case-accepted c h = from-memory c (accepted-valid c (b .table) (b .roll) (b .ledger) h)
+
+    accepts-case : (c : List ℕ) → ValidAfter p c → RoomForCase tableLength p → answerOn c b ≡ accepted
+    accepts-case c v room = valid-accepted c (b .table) (b .roll) (b .ledger) (in-memory c v room)
+
+    -- one that was accepted
+    case-kept : (c : List ℕ) → answerOn c b .number ≡ 0 → Kept (after (judged c) b) (withCase c p)
+    unfolding after withCase anchorRows Long
+    case-kept c h =
+        let a = after-one c b h in
+        let e = k .count in
+        record {
+          sound = sound-then c (b .table) (b .roll) (b .ledger) h;
+          table-length = a .table-length ∙ k .table-length;
+          roll-length = k .roll-length;
+          spent = λ z. Iff·trans (a .spent z) (with-more (spentIn b) (p .spent) (nullifiersOf c) (k .spent) z);
+          count = a .count ∙ omega (arith, length-append (p .leaves) (commitmentsOf c));
+          tree = a .tree ∙ ap (λ (u : Tree). grown u (commitmentsOf c)) (k .tree) ∙ sym (grown-append freshOf (p .leaves) (commitmentsOf c));
+          long = long-append (p .leaves) (commitmentsOf c) (k .long) (commitment-long c .0, (commitment-long c .1, tt));
+          anchors = ap (λ (n : ℕ). rowsOf n (b .roll)) (a .anchors) ∙ k .anchors;
+          pool = a .pool ∙ ap (λ (z : ℤ). z +ℤ pos (vpubOldOf c) -ℤ pos (vpubNewOf c)) (k .pool);
+        }
+
+    -- A BLOCK that was closed
+    block-kept : isAccepted (closingOn b) ≡ true → Kept (after closed b) (withBlock p)
+    unfolding after withBlock spentRows
+    block-kept h =
+        let passed = close-passed (b .table) (b .roll) (b .ledger) h in
+        let e = sym (passed .0) in
+        record {
+          sound = close-sound (b .table) (b .roll) (b .ledger) h (k .sound);
+          table-length = k .table-length;
+          roll-length = ap length (sym (passed .1)) ∙ pasted-length (b .ledger .anchors * 32) (recordRoot (b .ledger .tree)) (b .roll) ∙ k .roll-length;
+          spent = λ z. (λ m. k .spent z .0 (rw e at m), λ m. rw e (k .spent z .1 m));
+          count = ap (λ (m : Ledger). m .nullifiers) e ∙ k .count;
+          tree = ap (λ (m : Ledger). m .tree) e ∙ k .tree;
+          long = k .long;
+          anchors =
+              close-rows (b .table) (b .roll) (b .ledger) h (ap length rooted ∙ root-long (p .leaves))
+              ∙ ap₂ (λ (rows : List (List ℕ)) (x : List ℕ). rows ++ (x ∷ [])) (k .anchors) rooted;
+          pool = ap (λ (m : Ledger). m .pool .0) e ∙ k .pool;
+        }
+
+    -- one is closed where the roll has room
+    closes : RoomForRoot rollLength p → closingOn b ≡ accepted
+    unfolding None closeTable rowsIn no2
+    closes room =
+        let n = anchor-count in
+        let e = k .roll-length in
+        none-first (closeTable (b .table) (b .roll) (b .ledger))
+        (undamaged-still, (lt-leb (roomIn mostAnchors (length (b .roll))) (b .ledger .anchors) (rw e (omega arith)), tt))
+
+  -- and nowhere else: a roll that shows the new root had room for it
+  had-room : (b : Held) (p : Past) → Kept b (withBlock p) → RoomForRoot rollLength p
+  unfolding withBlock
+  had-room b p k =
+      let fits = k .sound .roll in
+      rw (anchor-count b (withBlock p) k, k .roll-length, length-append (p .roots) (treeRoot (p .leaves) ∷ [])) at fits
+
+  -- ALL CALLS: where they lead, and that it is kept
+  record Reached (calls : List Call) (b : Held) (p : Past) : Type 0 where
+    past : Past
+    leads : Leads tableLength rollLength p calls past
+    kept : Kept (afterAll calls b) past
+
+  reach : (calls : List Call) (b : Held) (p : Past) → Kept b p → Reached calls b p
+  unfolding afterAll
+  reach [] b p k = record { past = p; leads = no-call; kept = k }
+  reach (judged c ∷ calls) b p k =
+      by-test (isAccepted (answerOn c b))
+      (λ e.
+      let h = eqb-true (answerOn c b .number) 0 e in
+      let next = reach calls (after (judged c) b) (withCase c p) (case-kept b p k c h) in
+      let v = case-accepted b p k c h in
+      record { past = next .past; leads = case-taken (v .0) (v .1) (next .leads); kept = next .kept })
+      (λ e.
+      let next = reach calls b p k in
+      record {
+        past = next .past;
+        leads = case-not-taken (λ v room. not-both (answerOn c b) e (accepts-case b p k c v room)) (next .leads);
+        kept = rw (untouched-case c b e) (next .kept);
+      })
+  reach (closed ∷ calls) b p k =
+      by-test (isAccepted (closingOn b))
+      (λ e.
+      let kept = block-kept b p k e in
+      let next = reach calls (after closed b) (withBlock p) kept in
+      record { past = next .past; leads = block-closed (had-room (after closed b) p kept) (next .leads); kept = next .kept })
+      (λ e.
+      let next = reach calls b p k in
+      record {
+        past = next .past;
+        leads = block-not-closed (λ room. not-both (closingOn b) e (closes b p k room)) (next .leads);
+        kept = rw (untouched-block b e) (next .kept);
+      })
+
+  -- ONE PAST: from a past the same calls lead to the same past
+  only-one : {p q q′ : Past} {calls : List Call} → Leads tableLength rollLength p calls q → Leads tableLength rollLength p calls q′ → q ≡ q′
+  only-one no-call no-call = refl
+  only-one (case-taken v room h) (case-taken v′ room′ h′) = only-one h h′
+  only-one (case-taken v room h) (case-not-taken why h′) = absurd (why v room)
+  only-one (case-not-taken why h) (case-taken v room h′) = absurd (why v room)
+  only-one (case-not-taken why h) (case-not-taken why′ h′) = only-one h h′
+  only-one (block-closed room h) (block-closed room′ h′) = only-one h h′
+  only-one (block-closed room h) (block-not-closed why h′) = absurd (why room)
+  only-one (block-not-closed why h) (block-closed room h′) = absurd (why room)
+  only-one (block-not-closed why h) (block-not-closed why′ h′) = only-one h h′
 
 -- a ledger that was opened
-fresh-kept : (t r : List ℕ) → first (openTable r) .number ≡ 0 → Kept (opened t r) freshPast
+fresh-kept : (t r : List ℕ) → first (openTable r) .number ≡ 0 → Kept (length t) (length r) (opened t r) freshPast
 unfolding opened freshPast spentRows startOf rowsOf grown Long
 fresh-kept t r h =
-    let passed = eq-eqb (first (openTable r) .number) 0 h in
-    let e = sym (open-passed r passed .0) in
+    let yes = eq-eqb (first (openTable r) .number) 0 h in
+    let passed = open-passed r yes in
+    let e = sym (passed .0) in
     record {
-      sound = open-sound t r passed;
-      spent = ap (λ (m : Ledger). rowsOf (m .nullifiers) t) e;
+      sound = open-sound t r yes;
+      table-length = refl;
+      roll-length = ap length (sym (passed .1)) ∙ pasted-length 0 (treeRoot []) r;
+      spent = λ z. (λ m. rw e at m, λ m. rw e m);
       count = ap (λ (m : Ledger). m .nullifiers) e;
       tree = ap (λ (m : Ledger). m .tree) e;
       long = tt;
-      anchors = open-rows t r passed;
+      anchors = open-rows t r yes;
       pool = ap (λ (m : Ledger). m .pool .0) e;
     }
 
@@ -146,42 +263,29 @@ fresh-kept t r h =
 pub opens : (r : List ℕ) → 32 ≤ length r → first (openTable r) .number ≡ 0
 opens r h = ap (λ (a : Answer). a .number) (open-roomy r h)
 
--- THE THEOREM, for a table of any bytes and a roll on which a ledger can be opened
-pub history : (calls : List Call) (t r : List ℕ) → first (openTable r) .number ≡ 0 → Shows (afterAll calls (opened t r)) (pastAll calls (opened t r) freshPast)
-history calls t r h =
-    shown (afterAll calls (opened t r)) (pastAll calls (opened t r) freshPast) (all-kept calls (opened t r) freshPast (fresh-kept t r h))
+-- for a table of any bytes and a roll on which a ledger can be opened
+module _ (calls : List Call) (t r : List ℕ) (o : first (openTable r) .number ≡ 0) where
+  reached : Reached (length t) (length r) calls (opened t r) freshPast
+  reached = reach (length t) (length r) calls (opened t r) freshPast (fresh-kept t r o)
 
--- THE COUNTS: what each accepted call of one kind raises by w, and no other call, is raised by w for each of them
-module _ (size : Past → ℕ) (w : ℕ) (kind : Call → Bool) (raises : (x : Call) (p : Past) → size (withCall x p) ≡ size p + w * cond (kind x) 1 0) where
-  raised-once : (x : Call) (b : Held) (p : Past) → size (pastAfter x b p) ≡ size p + w * cond (kind x && passes x b) 1 0
-  unfolding pastAfter
-  raised-once x b p =
-      by-test (passes x b)
-      (λ e. rw (e, and-true (kind x)) (raises x p))
-      (λ e. rw (e, and-false (kind x), mul-zero w) (sym (add-zero (size p))))
+  -- THE THEOREM
+  pub history : History calls t r
+  history =
+      record {
+        past = reached .past;
+        leads = reached .leads;
+        only = λ q h. only-one (length t) (length r) h (reached .leads);
+        shows = shown (length t) (length r) (afterAll calls (opened t r)) (reached .past) (reached .kept);
+      }
 
-  raised : (calls : List Call) (b : Held) (p : Past) → size (pastAll calls b p) ≡ size p + w * counted kind calls b
-  unfolding pastAll counted
-  raised [] b p = rw (mul-zero w) (sym (add-zero (size p)))
-  raised (x ∷ xs) b p =
-      raised xs (after x b) (pastAfter x b p)
-      ∙ omega (arith, raised-once x b p, mul-add w (cond (kind x && passes x b) 1 0) (counted kind xs (after x b)))
-
-more-leaves : (x : Call) (p : Past) → length (withCall x p .leaves) ≡ length (p .leaves) + 2 * cond (isCase x) 1 0
-unfolding withCall isCase
-more-leaves (judged c) p = length-append (p .leaves) (commitmentOf 1 c ∷ commitmentOf 2 c ∷ [])
-more-leaves closed p = omega arith
-
-more-anchors : (x : Call) (p : Past) → length (withCall x p .anchors) ≡ length (p .anchors) + 1 * cond (isBlock x) 1 0
-unfolding withCall isBlock
-more-anchors (judged c) p = omega arith
-more-anchors closed p = length-append (p .anchors) (treeRoot (p .leaves) ∷ [])
-
--- THE SECOND THEOREM
-pub counts : (calls : List Call) (t r : List ℕ) → first (openTable r) .number ≡ 0 → Counts calls (opened t r)
-unfolding freshPast
-counts calls t r h =
-    let s = history calls t r h in
-    let cases = raised (λ p. length (p .leaves)) 2 isCase more-leaves calls (opened t r) freshPast in
-    let blocks = raised (λ p. length (p .anchors)) 1 isBlock more-anchors calls (opened t r) freshPast in
-    record { nullifiers = s .two-counts ∙ omega arith; leaves = s .leaf-count ∙ omega arith; anchors = s .anchor-count ∙ omega arith }
+  -- THE SECOND DEMAND, AFTER A HISTORY
+  pub accepted-exactly : (q : Past) → Leads (length t) (length r) freshPast calls q → (c : List ℕ) → NextCase (length t) (afterAll calls (opened t r)) q c
+  accepted-exactly q h c =
+      let b = afterAll calls (opened t r) in
+      let k : Kept (length t) (length r) b q = rw (only-one (length t) (length r) h (reached .leads)) (reached .kept) in
+      let zero : answerOn c b ≡ accepted → answerOn c b .number ≡ 0 = λ e. ap (λ (a : Answer). a .number) e in
+      record {
+        exactly =
+            (λ e. case-accepted (length t) (length r) b q k c (zero e), λ v. accepts-case (length t) (length r) b q k c (v .0) (v .1));
+        shows = λ e. shown (length t) (length r) (after (judged c) b) (withCase c q) (case-kept (length t) (length r) b q k c (zero e));
+      }

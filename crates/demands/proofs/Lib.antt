@@ -1,6 +1,7 @@
 pub mod AfterOne
 pub mod Bags
 pub mod Carried
+pub mod Counts
 pub mod Demand1
 pub mod Demand2
 pub mod Demand3

@@ -1,31 +1,31 @@
--- What one accepted case leaves, and what a run of calls leaves: the calls, the memory and the ledger after them, what they should have left, and that
--- the one shows the other. No rule of refusal is said again here: a call passes where the answer of `judge` or of `ledger` accepts.
+-- Calls on a ledger: what is held in memory after them, and, with no table, no roll and no record, what has happened by the rules, in which a case counts
+-- because it is valid and not because the judge said so. Then what it means that the one shows the other.
 -- Assumes nothing.
-use Prim.Native.Nat.{ℕ, _+_, _*_}
+use Prim.Native.Nat.{ℕ, _+_, _*_, _≤_}
 use mathlib.Core.Path.{_≡_}
-use mathlib.Core.Logic.{_⊎_}
-use mathlib.Core.Bool.{Bool, true, false, cond, _&&_}
+use mathlib.Core.Logic.{_↔_}
+use mathlib.Core.Bool.{true, false}
 use mathlib.Core.List.{List, [], _∷_, _++_, List·Memᴰ}
 use lib.IntN.{ℤ, pos, _+ℤ_, _-ℤ_}
 use lib.ListN.{length, drop}
 use Rattle.refusals.specs.declared.Answer.{Answer}
-use Rattle.refusals.specs.Table.{first, isAccepted}
+use Rattle.refusals.specs.Table.{accepted}
 use Rattle.casefile.specs.Fields.{vpubOldOf, vpubNewOf, nullifierOf, commitmentOf}
 use Rattle.nodes.specs.CommitmentTree.{treeRoot}
 use Rattle.tree.specs.Record.{freshOf, grown, recordRoot}
 use Rattle.ledger.specs.declared.Ledger.{Ledger}
-use Rattle.ledger.specs.Sorted.{rising, insert}
+use Rattle.ledger.specs.Sorted.{rising}
 use Rattle.ledger.specs.Rows.{byteOrder}
-use Rattle.ledger.specs.Ledgers.{spentRows, anchorRows, damaged, closeTable, closedOf, rollAfterClose, openedOf, rollAfterOpen}
+use Rattle.ledger.specs.Ledgers.{mostNullifiers, mostAnchors, roomIn, spentRows, anchorRows, damaged, closedOf, rollAfterClose, openedOf, rollAfterOpen}
 use Rattle.judge.specs.Judging.{answerOf, ledgerAfter, tableAfter}
-use Rattle.demands.specs.Validity.{Valid}
+use Rattle.demands.specs.Validity.{JoinSplitRules, Valid}
 
 -- THE CALLS: a case judged, by its bytes, or a block closed
 pub data Call : Type 0 where
   judged : List ℕ → Call
   closed : Call
 
--- what is held between two calls: the table's bytes, the roll's, and the ledger
+-- WHAT IS HELD between two calls: the table's bytes, the roll's, and the ledger
 pub record Held : Type 0 where
   pub table : List ℕ
   pub roll : List ℕ
@@ -37,17 +37,12 @@ spentIn b = spentRows (b .table) (b .ledger)
 abbrev pub anchorsIn : Held → List (List ℕ)
 anchorsIn b = anchorRows (b .roll) (b .ledger)
 
--- how a case is answered on it, and that the rules take the case
+-- how a case is answered on it, and that the case is valid there
 abbrev pub answerOn : List ℕ → Held → Answer
 answerOn c b = answerOf c (b .table) (b .roll) (b .ledger)
 
 abbrev pub ValidOn : List ℕ → Held → Type 0
 ValidOn c b = Valid c (b .table) (b .roll) (b .ledger)
-
--- whether a call is accepted
-unfoldable pub passes : Call → Held → Bool
-passes (judged c) b = isAccepted (answerOn c b)
-passes closed b = isAccepted (first (closeTable (b .table) (b .roll) (b .ledger)))
 
 -- what is held after a call, and after some, in order; the judge does not write to the roll, nor closing to the table
 unfoldable pub after : Call → Held → Held
@@ -72,85 +67,122 @@ afterAll (x ∷ xs) b = afterAll xs (after x b)
 unfoldable pub opened : List ℕ → List ℕ → Held
 opened t r = record { table = t; roll = rollAfterOpen r; ledger = openedOf r }
 
--- ONE CASE. What was spent before and a case's own two nullifiers
-abbrev pub SpentWith : List ℕ → List (List ℕ) → List ℕ → Type 0
-SpentWith c before z = (z ≡ nullifierOf 1 c) ⊎ ((z ≡ nullifierOf 2 c) ⊎ List·Memᴰ z before)
+-- ONE CASE. Two lists with the same members are the same set
+abbrev pub SameMembers : List (List ℕ) → List (List ℕ) → Type 0
+SameMembers xs ys = (z : List ℕ) → List·Memᴰ z xs ↔ List·Memᴰ z ys
+
+abbrev pub nullifiersOf : List ℕ → List (List ℕ)
+nullifiersOf c = nullifierOf 1 c ∷ nullifierOf 2 c ∷ []
+
+abbrev pub commitmentsOf : List ℕ → List (List ℕ)
+commitmentsOf c = commitmentOf 1 c ∷ commitmentOf 2 c ∷ []
 
 -- c was accepted on b and left b′. In the table's used rows are those that were there and c's two nullifiers, nothing else, in rising order; the count
 -- says so, and what lies behind the rows now in use is as it was. The tree has c's two commitments more, the pool what c put in more and what it took
 -- out less. The roll, and its count, are as they were.
 pub record AfterOne (c : List ℕ) (b b′ : Held) : Type 0 where
-  pub spent-only : (z : List ℕ) → List·Memᴰ z (spentIn b′) → SpentWith c (spentIn b) z
-  pub spent-all : (z : List ℕ) → SpentWith c (spentIn b) z → List·Memᴰ z (spentIn b′)
+  pub spent : SameMembers (spentIn b′) (spentIn b ++ nullifiersOf c)
   pub rises : rising byteOrder (spentIn b′) ≡ true
   pub count : b′ .ledger .nullifiers ≡ b .ledger .nullifiers + 2
   pub table-length : length (b′ .table) ≡ length (b .table)
   pub past-rows : drop ((b .ledger .nullifiers + 2) * 32) (b′ .table) ≡ drop ((b .ledger .nullifiers + 2) * 32) (b .table)
-  pub tree : b′ .ledger .tree ≡ grown (b .ledger .tree) (commitmentOf 1 c ∷ commitmentOf 2 c ∷ [])
+  pub tree : b′ .ledger .tree ≡ grown (b .ledger .tree) (commitmentsOf c)
   pub pool : b′ .ledger .pool .0 ≡ b .ledger .pool .0 +ℤ pos (vpubOldOf c) -ℤ pos (vpubNewOf c)
   pub anchors : b′ .ledger .anchors ≡ b .ledger .anchors
   pub roll : b′ .roll ≡ b .roll
 
--- A RUN OF CALLS. What it should have left, with no table, no roll and no record: the nullifiers spent, in byte order; the leaves and the anchors, in
--- the order in which they came; the pool
+-- THE PAST, each list in the order in which things came: the nullifiers spent, which are a set to all that follows; the leaves; the root at each closing,
+-- behind that of the tree with no leaf; the pool
 pub record Past : Type 0 where
   pub spent : List (List ℕ)
   pub leaves : List (List ℕ)
-  pub anchors : List (List ℕ)
+  pub roots : List (List ℕ)
   pub pool : ℤ
 
--- no call yet: one anchor, the root of the tree with no leaf
+-- no call yet (house: the root of the tree with no leaf may be an anchor)
 unfoldable pub freshPast : Past
-freshPast = record { spent = []; leaves = []; anchors = treeRoot [] ∷ []; pool = pos 0 }
+freshPast = record { spent = []; leaves = []; roots = treeRoot [] ∷ []; pool = pos 0 }
 
--- what an accepted call adds to it: a case its nullifiers, its commitments and its public values, a block the root of the tree over all leaves so far
-unfoldable pub withCall : Call → Past → Past
-withCall (judged c) p =
+-- with a case that was taken, and with a block that was closed
+unfoldable pub withCase : List ℕ → Past → Past
+withCase c p =
     record {
-      spent = insert byteOrder (nullifierOf 2 c) (insert byteOrder (nullifierOf 1 c) (p .spent));
-      leaves = p .leaves ++ (commitmentOf 1 c ∷ commitmentOf 2 c ∷ []);
-      anchors = p .anchors;
+      spent = p .spent ++ nullifiersOf c;
+      leaves = p .leaves ++ commitmentsOf c;
+      roots = p .roots;
       pool = p .pool +ℤ pos (vpubOldOf c) -ℤ pos (vpubNewOf c);
     }
-withCall closed p = record { spent = p .spent; leaves = p .leaves; anchors = p .anchors ++ (treeRoot (p .leaves) ∷ []); pool = p .pool }
 
--- a refused call adds nothing
-unfoldable pub pastAfter : Call → Held → Past → Past
-pastAfter x b p = cond (passes x b) (withCall x p) p
+unfoldable pub withBlock : Past → Past
+withBlock p = record { spent = p .spent; leaves = p .leaves; roots = p .roots ++ (treeRoot (p .leaves) ∷ []); pool = p .pool }
 
-unfoldable pub pastAll : List Call → Held → Past → Past
-pastAll [] b p = p
-pastAll (x ∷ xs) b p = pastAll xs (after x b) (pastAfter x b p)
+-- VALID AFTER A PAST, by the public rules alone
+abbrev pub ValidAfter : Past → List ℕ → Type 0
+ValidAfter p c = JoinSplitRules c (p .roots) (p .spent)
 
--- what is held shows just what the calls should have left
+-- THE HOUSE'S OWN RULES: a table of some length has room for two nullifiers more, where as many were spent as there are leaves; a roll of some length for
+-- one root more
+abbrev pub RoomForCase : ℕ → Past → Type 0
+RoomForCase tableLength p = length (p .leaves) + 2 ≤ roomIn mostNullifiers tableLength
+
+abbrev pub RoomForRoot : ℕ → Past → Type 0
+RoomForRoot rollLength p = length (p .roots) + 1 ≤ roomIn mostAnchors rollLength
+
+-- HOW CALLS LEAD from one past to another: a case is taken where it is valid and there is room, a block is closed where there is room, and any other call
+-- leaves the past as it is. So nothing of a case that was not taken is ever spent
+module _ (tableLength rollLength : ℕ) where
+  pub data Leads : Past → List Call → Past → Type 0 where
+    no-call : {p : Past} → Leads p [] p
+    case-taken : {p q : Past} {c : List ℕ} {calls : List Call} → ValidAfter p c → RoomForCase tableLength p
+        → Leads (withCase c p) calls q → Leads p (judged c ∷ calls) q
+    case-not-taken : {p q : Past} {c : List ℕ} {calls : List Call} → (ValidAfter p c → RoomForCase tableLength p → ⊥)
+        → Leads p calls q → Leads p (judged c ∷ calls) q
+    block-closed : {p q : Past} {calls : List Call} → RoomForRoot rollLength p → Leads (withBlock p) calls q → Leads p (closed ∷ calls) q
+    block-not-closed : {p q : Past} {calls : List Call} → (RoomForRoot rollLength p → ⊥) → Leads p calls q → Leads p (closed ∷ calls) q
+
+  -- how many cases were taken on the way, and how many blocks closed
+  unfoldable pub casesTaken : {p q : Past} {calls : List Call} → Leads p calls q → ℕ
+  casesTaken no-call = 0
+  casesTaken (case-taken v room h) = casesTaken h + 1
+  casesTaken (case-not-taken why h) = casesTaken h
+  casesTaken (block-closed room h) = casesTaken h
+  casesTaken (block-not-closed why h) = casesTaken h
+
+  unfoldable pub blocksClosed : {p q : Past} {calls : List Call} → Leads p calls q → ℕ
+  blocksClosed no-call = 0
+  blocksClosed (case-taken v room h) = blocksClosed h
+  blocksClosed (case-not-taken why h) = blocksClosed h
+  blocksClosed (block-closed room h) = blocksClosed h + 1
+  blocksClosed (block-not-closed why h) = blocksClosed h
+
+-- WHAT IS HELD SHOWS A PAST, and nothing else: of nullifiers there are as many as of leaves
 pub record Shows (b : Held) (p : Past) : Type 0 where
-  pub spent : spentIn b ≡ p .spent
-  pub spent-count : b .ledger .nullifiers ≡ length (p .spent)
+  pub spent : SameMembers (spentIn b) (p .spent)
+  pub rises : rising byteOrder (spentIn b) ≡ true
+  pub spent-count : b .ledger .nullifiers ≡ length (p .leaves)
   pub leaf-count : b .ledger .tree .leaves ≡ length (p .leaves)
-  pub two-counts : b .ledger .nullifiers ≡ length (p .leaves)
   pub tree : b .ledger .tree ≡ grown freshOf (p .leaves)
   pub root : recordRoot (b .ledger .tree) ≡ treeRoot (p .leaves)
-  pub anchors : anchorsIn b ≡ p .anchors
-  pub anchor-count : b .ledger .anchors ≡ length (p .anchors)
+  pub anchors : anchorsIn b ≡ p .roots
+  pub anchor-count : b .ledger .anchors ≡ length (p .roots)
   pub pool : b .ledger .pool .0 ≡ p .pool
   pub undamaged : damaged (b .table) (b .roll) (b .ledger) ≡ false
 
--- THE HISTORY'S OWN COUNT: how many calls of one kind were accepted
-unfoldable pub isCase : Call → Bool
-isCase (judged c) = true
-isCase closed = false
+-- A HISTORY: some calls on a ledger that was opened lead to one past and to no other, and that is what is held
+pub record History (calls : List Call) (t r : List ℕ) : Type 0 where
+  pub past : Past
+  pub leads : Leads (length t) (length r) freshPast calls past
+  pub only : (q : Past) → Leads (length t) (length r) freshPast calls q → q ≡ past
+  pub shows : Shows (afterAll calls (opened t r)) past
 
-unfoldable pub isBlock : Call → Bool
-isBlock (judged c) = false
-isBlock closed = true
+-- THE NEXT CASE on what is held after a past: it is accepted exactly when it is valid after that past and there is room, and then it is part of the past
+pub record NextCase (tableLength : ℕ) (b : Held) (p : Past) (c : List ℕ) : Type 0 where
+  pub exactly : (answerOn c b ≡ accepted) ↔ (ValidAfter p c × RoomForCase tableLength p)
+  pub shows : answerOn c b ≡ accepted → Shows (after (judged c) b) (withCase c p)
 
-unfoldable pub counted : (Call → Bool) → List Call → Held → ℕ
-counted kind [] b = 0
-counted kind (x ∷ xs) b = cond (kind x && passes x b) 1 0 + counted kind xs (after x b)
-
--- the counts of a ledger that was opened, after some calls: two nullifiers and two leaves for each accepted case, and an anchor for each closed block
--- beside the first
-pub record Counts (calls : List Call) (start : Held) : Type 0 where
-  pub nullifiers : afterAll calls start .ledger .nullifiers ≡ 2 * counted isCase calls start
-  pub leaves : afterAll calls start .ledger .tree .leaves ≡ 2 * counted isCase calls start
-  pub anchors : afterAll calls start .ledger .anchors ≡ 1 + counted isBlock calls start
+-- THE COUNTS of what is held, after so many cases taken and so many blocks closed: two nullifiers and two leaves for each case, and an anchor for each
+-- block beside the first
+pub record Counts (b : Held) (cases blocks : ℕ) : Type 0 where
+  pub nullifiers : b .ledger .nullifiers ≡ 2 * cases
+  pub leaves : b .ledger .tree .leaves ≡ 2 * cases
+  pub anchors : b .ledger .anchors ≡ 1 + blocks

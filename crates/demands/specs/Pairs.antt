@@ -5,14 +5,14 @@ use Prim.Native.Nat.{ℕ, _+_, _≤_}
 use mathlib.Core.Path.{_≡_}
 use mathlib.Core.Logic.{_⊎_}
 use mathlib.Core.Bool.{true}
-use mathlib.Core.List.{List, [], _∷_}
+use mathlib.Core.List.{List, _++_}
 use lib.ListN.{length}
 use Rattle.units.specs.Pairs.{ForBoth}
 use Rattle.refusals.specs.Table.{answer, accepted}
-use Rattle.casefile.specs.Fields.{hasLength, nullifierOf, commitmentOf}
+use Rattle.casefile.specs.Fields.{hasLength, nullifierOf}
 use Rattle.tree.specs.Record.{grown}
 use Rattle.ledger.specs.Ledgers.{mostNullifiers, roomIn}
-use Rattle.demands.specs.Histories.{judged, Held, after, answerOn, ValidOn}
+use Rattle.demands.specs.Histories.{judged, Held, after, answerOn, ValidOn, commitmentsOf}
 
 -- they share no nullifier; a file of the wrong length has none
 abbrev pub ShareNone : List ℕ → List ℕ → Type 0
@@ -46,8 +46,8 @@ pub record SameEnd (c d : List ℕ) (b : Held) : Type 0 where
   pub nullifiers : afterBoth c d b .ledger .nullifiers ≡ afterBoth d c b .ledger .nullifiers
   pub anchors : afterBoth c d b .ledger .anchors ≡ afterBoth d c b .ledger .anchors
   pub pool : afterBoth c d b .ledger .pool .0 ≡ afterBoth d c b .ledger .pool .0
-  pub tree-c-d : afterBoth c d b .ledger .tree ≡ grown (b .ledger .tree) (commitmentOf 1 c ∷ commitmentOf 2 c ∷ commitmentOf 1 d ∷ commitmentOf 2 d ∷ [])
-  pub tree-d-c : afterBoth d c b .ledger .tree ≡ grown (b .ledger .tree) (commitmentOf 1 d ∷ commitmentOf 2 d ∷ commitmentOf 1 c ∷ commitmentOf 2 c ∷ [])
+  pub tree-c-d : afterBoth c d b .ledger .tree ≡ grown (b .ledger .tree) (commitmentsOf c ++ commitmentsOf d)
+  pub tree-d-c : afterBoth d c b .ledger .tree ≡ grown (b .ledger .tree) (commitmentsOf d ++ commitmentsOf c)
 
 -- both are accepted, in either order, and end alike
 pub record BothPass (c d : List ℕ) (b : Held) : Type 0 where

@@ -36,7 +36,7 @@ unfolding commitmentOf partOf proofLength lengths description oldNote newNote
 commitment-long c = (field-length _ 32 c, field-length _ 32 c)
 
 -- the public values move the pool by no more than all money
-pub moved : (c : List ℕ) → PublicValues c → vpubOldOf c + vpubNewOf c ≤ maxMoney
+moved : (c : List ℕ) → PublicValues c → vpubOldOf c + vpubNewOf c ≤ maxMoney
 moved c v =
     let a = v .old-money in
     let b = v .new-money in

@@ -13,7 +13,7 @@ use Rattle.judge.specs.Judging.{answerOf}
 use Rattle.judge.proofs.Outcomes.{refused-ledger, refused-table}
 use Rattle.seal.specs.declared.Calibration.{Calibration}
 use Rattle.bag.specs.Scanning.{Held as Judged, held as judgedSoFar, withCase, judgedAll, judgedCases, heldAfter, report, scannedOf, tableAfterScan, padded}
-use Rattle.demands.specs.Histories.{Call, judged, Held, after, afterAll}
+use Rattle.demands.specs.Histories.{judged, Held, after, afterAll}
 use Rattle.demands.specs.Bags.{callsOf, answersTo, NoneAccepted, AsCalls}
 
 -- as many answers as cases

@@ -1,73 +1,140 @@
--- THE FIRST DEMAND, over all bytes and all ledgers: the table has each number with its own places; one of them is the answer exactly where its row
--- applies and none above it does; and what is held is the same after a refusal as before.
+-- THE FIRST DEMAND of judging, closing and opening, over all bytes and all ledgers: each answer is that of the first sentence that holds, and no other; the
+-- numbers and places are those of document 01, once each; and after a refusal all is as it was. Bags and seals have theirs in Demand1Bags.
 -- Assumes nothing.
-use Prim.Native.Nat.{ℕ}
-use mathlib.Core.Path.{_≡_, refl}
-use mathlib.Core.List.{List, [], _∷_}
-use borrow.Author.Tests.{ne-eqb}
-use Rattle.refusals.specs.declared.Answer.{Answer}
-use Rattle.refusals.specs.Table.{Row, answer, accepted, None, Decides, rowsIn}
-use Rattle.refusals.proofs.TableLaws.{decides-first, first-decides, none-first, first-none}
-use Rattle.statement.specs.CaseTable.{no1, no4, no5, no7, no9, no10, no11, no12, no13, no14, no15, no16}
+use Prim.Native.Nat.{ℕ, _<_}
+use mathlib.Core.Path.{_≡_, refl, sym, ap}
+use mathlib.Core.Bool.{true, false, false≢true}
+use mathlib.Core.List.{List, [], _∷_, List·Memᴰ}
+use native.Mathlib.Omega.{arith}
+use borrow.Author.Tests.{ne-eqb, eqb-true, eq-eqb}
+use lib.Dec.{eqb}
+use lib.ListN.{length}
+use Rattle.octets.specs.Parts.{same}
+use Rattle.octets.proofs.PartLaws.{same-eq, same-refl}
+use Rattle.refusals.specs.Table.{rowsIn, first, numbered}
+use Rattle.refusals.specs.Sentences.{AnswersBy, placesOf, OneOf}
+use Rattle.refusals.proofs.SentenceLaws.{Tells, tells-equal, tells-below, tells-at-most, tells-above, tells-not, tells-both, tells-either, Agree, done, _&_, answers-by}
+use Rattle.sprout.specs.Hashes.{hasTopBits}
+use Rattle.casefile.specs.Layout.{description, oldNote, newNote, lengths, total, caseLength, proofLength}
+use Rattle.casefile.specs.Fields.{hasLength}
+use Rattle.statement.specs.Conditions.{bothPublic, aboveMoney, outOfRange, strays, balanced, differs}
+use Rattle.statement.specs.CaseTable.{no1, no4, no5, no7, no9, no10, no11, no12, no13, no14, no15, no16, rangeOf, straysOf, balancedOf, nullifierWrong, addressWrong, tagWrong, rhoWrong, commitmentWrong, oldCommitmentOf, hSigOf}
 use Rattle.ledger.specs.declared.Ledger.{Ledger}
-use Rattle.ledger.specs.Ledgers.{no2, no3, no6, no8}
+use Rattle.ledger.specs.declared.order.Order.{Order}
+use Rattle.ledger.specs.declared.order.Order.the-variants.{Less, Equal, Greater}
+use Rattle.ledger.specs.Sorted.{rising, isLess}
+use Rattle.ledger.specs.Rows.{byteOrder, among}
+use Rattle.ledger.specs.Ledgers.{mostAnchors, roomIn, spentRows, damage, damaged, some, no2, no3, no6, no8, closeTable, closedOf, rollAfterClose, openTable, startOf, openedOf, rollAfterOpen}
+use Rattle.ledger.proofs.Soundness.{among-member, member-among}
+use Rattle.ledger.proofs.Endings.{close-refused, open-refused}
 use Rattle.judge.specs.Judging.{judgeTable, answerOf, ledgerAfter, tableAfter}
 use Rattle.judge.proofs.Halves.{numbers}
 use Rattle.judge.proofs.Outcomes.{refused-ledger, refused-table}
+use Rattle.demands.specs.Refusals.{Rises, Damaged, caseSentences, allPlaces, closeSentences, openSentences}
 
--- the numbers and places of some rows, in order
-unfoldable pub placesOf : List Row → List Answer
-placesOf [] = []
-placesOf (r ∷ rs) = answer (r .number) (r .place) ∷ placesOf rs
+-- TESTS ON BYTES AND ROWS, and what they tell
+same-bytes : {s t : List ℕ} → Tells (same s t) (s ≡ t)
+same-bytes {s} {t} = (same-eq s t, λ e. rw e (same-refl t))
 
--- every number with its places, in the order in which they are asked
-unfoldable pub allPlaces : List Answer
-allPlaces =
-    answer 1 0
-    ∷ answer 2 0
-    ∷ answer 3 0
-    ∷ answer 4 0
-    ∷ answer 5 1 ∷ answer 5 2
-    ∷ answer 6 0
-    ∷ answer 7 0
-    ∷ answer 8 1 ∷ answer 8 2
-    ∷ answer 9 1 ∷ answer 9 2 ∷ answer 9 3
-    ∷ answer 10 1 ∷ answer 10 2
-    ∷ answer 11 0
-    ∷ answer 12 1 ∷ answer 12 2
-    ∷ answer 13 1 ∷ answer 13 2
-    ∷ answer 14 1 ∷ answer 14 2
-    ∷ answer 15 1 ∷ answer 15 2
-    ∷ answer 16 1 ∷ answer 16 2
-    ∷ []
+a-member : {x : List ℕ} {rows : List (List ℕ)} → Tells (among x rows) (List·Memᴰ x rows)
+a-member {x} {rows} = (among-member x rows, member-among x rows)
+
+less : (o : Order) → Tells (isLess o) (o ≡ Less)
+less Less = (λ h. refl, λ e. refl)
+less Equal = (λ h. absurd (false≢true h), λ e. ap isLess e)
+less Greater = (λ h. absurd (false≢true h), λ e. ap isLess e)
+
+rises : (rows : List (List ℕ)) → Tells (rising byteOrder rows) (Rises rows)
+unfolding rising Rises
+rises [] = (λ h. tt, λ h. refl)
+rises (x ∷ []) = (λ h. tt, λ h. refl)
+rises (x ∷ y ∷ rows) = tells-both (less (byteOrder x y)) (rises (y ∷ rows))
+
+-- DAMAGE, by its list of tests
+damage-told : (t r : List ℕ) (l : Ledger) → Tells (damaged t r l) (Damaged t r l)
+unfolding damaged damage Damaged OneOf some
+damage-told t r l =
+    tells-either (tells-not tells-equal)
+    (tells-either tells-below
+    (tells-either (tells-not (rises (spentRows t l)))
+    (tells-either (tells-not tells-equal)
+    (tells-either tells-equal
+    (tells-either tells-below
+    (tells-either tells-below (λ h. absurd (false≢true h), λ x. absurd x)))))))
 
 -- for any bytes c, any table t, any roll r and any ledger value l
 module _ (c t r : List ℕ) (l : Ledger) where
-  -- whatever the case and the ledger, the table has these numbers and places, once each and in this order
-  pub one-place : placesOf (judgeTable c t r l) ≡ allPlaces
-  unfolding placesOf allPlaces judgeTable rowsIn no1 no2 no3 no4 no5 no6 no7 no8 no9 no10 no11 no12 no13 no14 no15 no16
+  -- A CASE: row by row of the judge's table
+  rows-told : Agree (judgeTable c t r l) (caseSentences c t r l)
+  unfolding judgeTable rowsIn caseSentences no1 no2 no3 no4 no5 no6 no7 no8 no9 no10 no11 no12 no13 no14 no15 no16 hasLength caseLength proofLength lengths description oldNote newNote total bothPublic aboveMoney hasTopBits outOfRange strays balanced differs rangeOf straysOf balancedOf nullifierWrong addressWrong tagWrong rhoWrong commitmentWrong oldCommitmentOf hSigOf
+  rows-told =
+      tells-not tells-equal
+      & damage-told t r l
+      & tells-below
+      & tells-both (tells-not tells-equal) (tells-not tells-equal)
+      & tells-below
+      & tells-below
+      & tells-not a-member
+      & same-bytes
+      & a-member
+      & a-member
+      & tells-either tells-above tells-at-most
+      & tells-either tells-above tells-at-most
+      & tells-above
+      & tells-both (tells-not tells-equal) (tells-not same-bytes)
+      & tells-both (tells-not tells-equal) (tells-not same-bytes)
+      & tells-not tells-equal
+      & tells-not same-bytes
+      & tells-not same-bytes
+      & tells-not same-bytes
+      & tells-not same-bytes
+      & tells-not same-bytes
+      & tells-not same-bytes
+      & tells-not same-bytes
+      & tells-not same-bytes
+      & tells-not same-bytes
+      & tells-not same-bytes
+      & done
+
+  pub case-answered : AnswersBy (caseSentences c t r l) (answerOf c t r l)
+  unfolding answerOf
+  case-answered = answers-by (numbers c t r l) rows-told
+
+  -- whatever the case and the ledger, these are the numbers and places, once each and in this order
+  pub one-place : placesOf (caseSentences c t r l) ≡ allPlaces
+  unfolding placesOf allPlaces caseSentences
   one-place = refl
 
-  -- a refusal is given where its row applies and none above it does, and at no other time
-  pub given-where : (n p : ℕ) → Decides (judgeTable c t r l) n p → answerOf c t r l ≡ answer n p
-  unfolding answerOf
-  given-where n p d = decides-first (judgeTable c t r l) n p d
-
-  pub only-where : (n p : ℕ) → (n ≡ 0 → ⊥) → answerOf c t r l ≡ answer n p → Decides (judgeTable c t r l) n p
-  unfolding answerOf
-  only-where n p z e = first-decides (judgeTable c t r l) n p z e
-
-  -- acceptance is given where no row applies, and at no other time
-  pub accepted-where : None (judgeTable c t r l) → answerOf c t r l ≡ accepted
-  unfolding answerOf
-  accepted-where h = none-first (judgeTable c t r l) h
-
-  pub accepted-only-where : answerOf c t r l .number ≡ 0 → None (judgeTable c t r l)
-  unfolding answerOf
-  accepted-only-where h = first-none (judgeTable c t r l) (numbers c t r l) h
-
   -- a refusal leaves the counts, the record, the pool and every byte of the table; the roll is lent to the judge for reading alone
-  pub refusal-leaves : (answerOf c t r l .number ≡ 0 → ⊥) → (ledgerAfter c t r l ≡ l) × (tableAfter c t r l ≡ t)
-  refusal-leaves h =
+  pub case-leaves : (answerOf c t r l .number ≡ 0 → ⊥) → (ledgerAfter c t r l ≡ l) × (tableAfter c t r l ≡ t)
+  case-leaves h =
       let no = ne-eqb (answerOf c t r l .number) 0 h in
       (refused-ledger c t r l no, refused-table c t r l no)
+
+-- CLOSING A BLOCK
+module _ (t r : List ℕ) (l : Ledger) where
+  pub close-answered : AnswersBy (closeSentences t r l) (first (closeTable t r l))
+  unfolding closeTable rowsIn closeSentences no2 numbered
+  close-answered = answers-by refl (damage-told t r l & tells-at-most & done)
+
+  -- the table is lent for reading alone
+  pub close-leaves : (first (closeTable t r l) .number ≡ 0 → ⊥) → (closedOf t r l ≡ l) × (rollAfterClose t r l ≡ r)
+  close-leaves h =
+      let e = close-refused t r l (ne-eqb (first (closeTable t r l) .number) 0 h) in
+      (sym (e .0), sym (e .1))
+
+-- OPENING
+module _ (r : List ℕ) where
+  no-row : Tells (eqb (roomIn mostAnchors (length r)) 0) (length r < 32)
+  unfolding roomIn
+  no-row = (λ h. let e = eqb-true (roomIn mostAnchors (length r)) 0 h in omega arith, λ h. eq-eqb (roomIn mostAnchors (length r)) 0 (omega arith))
+
+  pub open-answered : AnswersBy (openSentences r) (first (openTable r))
+  unfolding openTable openSentences numbered
+  open-answered = answers-by refl (no-row & done)
+
+  -- no byte of the roll changes, the table is not lent at all, and what is handed back is all zero
+  pub open-leaves : (first (openTable r) .number ≡ 0 → ⊥) → (openedOf r ≡ startOf 0) × (rollAfterOpen r ≡ r)
+  open-leaves h =
+      let e = open-refused r (ne-eqb (first (openTable r) .number) 0 h) in
+      (sym (e .0), sym (e .1))

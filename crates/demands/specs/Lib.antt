@@ -1,4 +1,5 @@
 pub mod Bags
 pub mod Histories
 pub mod Pairs
+pub mod Refusals
 pub mod Validity

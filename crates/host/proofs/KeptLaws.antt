@@ -1,7 +1,7 @@
 -- What a host keeps between two calls is the ledger: read back from its bytes it is the very one that the call left. So what the demands say of ledgers
 -- holds of a host's three buffers. A bag is read back by induction on its cases: each leaves a ledger that fits.
 -- Assumes nothing.
-use Prim.Native.Nat.{ℕ, _+_, _*_, _/_, _≤_, _<_, _^_}
+use Prim.Native.Nat.{ℕ, _≤_}
 use mathlib.Core.Path.{_≡_, refl, sym, ap, _∙_}
 use mathlib.Core.Bool.{Bool, true, false, cond}
 use mathlib.Core.List.{List, [], _∷_}
@@ -20,7 +20,7 @@ use Rattle.ledger.specs.Ledgers.{mostNullifiers, mostAnchors, openTable, opened
 use Rattle.ledger.proofs.Signed.{mag-abs}
 use Rattle.ledger.proofs.Soundness.{Sound, undamaged, at-most}
 use Rattle.ledger.proofs.Endings.{open-refused, open-passed, close-refused, close-passed, close-sound}
-use Rattle.ledgerbytes.specs.Keeping.{isWhole, ledgerOf, bytesOf, written, Fits}
+use Rattle.ledgerbytes.specs.Keeping.{isWhole, ledgerOf, written, Fits}
 use Rattle.ledgerbytes.proofs.KeepingLaws.{read-written}
 use Rattle.seal.specs.declared.Calibration.{Calibration}
 use Rattle.bag.specs.Scanning.{sealIn, layoutAnswer, gateAnswer, judgedCases, report, scannedOf}

@@ -2,25 +2,23 @@
 -- calls of a history leave. By induction on the calls; each leaves 988 bytes that say a ledger which fits.
 -- Assumes nothing.
 use Prim.Native.Nat.{ℕ}
-use mathlib.Core.Path.{_≡_, refl, sym, ap, ap₂, _∙_}
+use mathlib.Core.Path.{_≡_, refl, sym, ap, _∙_}
 use mathlib.Core.Bool.{Bool, true, false, cond}
 use mathlib.Core.List.{List, [], _∷_, _++_}
 use borrow.Author.Tests.{eq-eqb}
 use lib.ListN.{length}
-use Rattle.refusals.specs.Table.{first, isAccepted}
+use Rattle.refusals.specs.Table.{isAccepted}
 use Rattle.refusals.proofs.TableLaws.{by-test}
 use Rattle.seal.specs.declared.Calibration.{Calibration}
 use Rattle.ledger.specs.declared.Ledger.{Ledger}
-use Rattle.ledger.specs.Ledgers.{openTable, openedOf, rollAfterOpen}
+use Rattle.ledger.specs.Ledgers.{openedOf}
 use Rattle.ledgerbytes.specs.Keeping.{isWhole, ledgerOf, bytesOf, written, Fits}
 use Rattle.ledgerbytes.proofs.KeepingLaws.{bytes-long}
-use Rattle.bag.specs.Scanning.{judgedCases}
 use Rattle.demands.specs.Histories.{Call, judged, closed, Held, after, afterAll, opened}
-use Rattle.demands.specs.Bags.{callsOf}
 use Rattle.demands.proofs.Bags.{bag-is-calls}
 use Rattle.host.specs.Answers.{isLong}
-use Rattle.host.specs.Ledgers.{openLedger, openRoll, judgeAnswer, judgeLedger, judgeTable, closeAnswer, closeLedger, closeRoll}
-use Rattle.host.specs.Bags.{scanOf, bagAnswer, bagLedger, bagTable}
+use Rattle.host.specs.Ledgers.{openRoll, judgeAnswer, judgeLedger, judgeTable, closeAnswer, closeLedger, closeRoll}
+use Rattle.host.specs.Bags.{bagAnswer, bagLedger, bagTable}
 use Rattle.host.specs.Shifts.{Buffers, heldIn, HostCall, judge-call, bag-call, close-call, buffersAfter, afterShift, openedBuffers, callsIn, shiftCalls}
 use Rattle.host.proofs.KeptLaws.{judged-back, closed-back, opened-back, bag-back, scan-fits, fits-all, fits-opened}
 

@@ -6,16 +6,15 @@ use mathlib.Core.Bool.{Bool, true, false, _||_, true≢false}
 use mathlib.Core.List.{List, _++_}
 use native.Mathlib.Omega.{arith}
 use borrow.Author.Tests.{leb-false}
-use lib.Dec.{eqb, leb}
-use lib.ListN.{length, length-append}
+use lib.Dec.{eqb}
+use lib.ListN.{length-append}
 use Rattle.octets.specs.Parts.{Bytes, field}
-use Rattle.octets.specs.Numbers.{little, littleBytes}
+use Rattle.octets.specs.Numbers.{littleBytes}
 use Rattle.octets.proofs.ByteLaws.{field-below}
 use Rattle.octets.proofs.NumberLaws.{little-bytes, little-bytes-length}
 use Rattle.octets.proofs.PartLaws.{field-left, field-right, field-all}
 use Rattle.refusals.proofs.TableLaws.{by-test}
 use Rattle.books.specs.declared.Tally.{Tally}
-use Rattle.books.specs.declared.Tallied.{Tallied}
 use Rattle.books.specs.Tally.{full, isFull, countOf, raised, tallyOf}
 use Rattle.host.specs.Answers.{isLong}
 use Rattle.host.specs.Books.{tallyIn, tallyBytes, countedIn, tallyAnswer, tallyAfter}

@@ -5,12 +5,13 @@ use mathlib.Core.Path.{_≡_, refl, sym, ap, ap₂, _∙_}
 use mathlib.Core.Logic.{_↔_, _⊎_, inl, inr, ⊎-elim}
 use mathlib.Core.Bool.{Bool, true, false, not, _&&_, _||_, true≢false, false≢true}
 use mathlib.Core.List.{List, [], _∷_}
-use borrow.Author.Tests.{eqb-true, eq-eqb, ltb-true, lt-ltb, leb-true, le-leb}
+use native.Mathlib.Nat.{lt-of-not-le}
+use borrow.Author.Tests.{eqb-true, eq-eqb, ltb-true, lt-ltb, le-ltb, leb-true, le-leb}
 use lib.Dec.{eqb, leb, ltb}
 use Rattle.refusals.specs.declared.Answer.{Answer}
-use Rattle.refusals.specs.Table.{Row, answer, accepted, isAccepted, first, None, numbered}
-use Rattle.refusals.specs.Sentences.{Sentence, NoneHolds, FirstHolds, AnswersBy, OneOf}
-use Rattle.refusals.proofs.TableLaws.{by-test, first-here, first-next, none-first, first-none, numbered-here, numbered-next}
+use Rattle.refusals.specs.Table.{Row, answer, first, None, numbered}
+use Rattle.refusals.specs.Sentences.{Sentence, NoneHolds, FirstHolds, AnswersBy}
+use Rattle.refusals.proofs.TableLaws.{by-test, first-here, first-next, none-first, first-none}
 
 -- the test holds exactly when the proposition does
 abbrev pub Tells : Bool → Type 0 → Type 0
@@ -24,6 +25,10 @@ tells-below {a} {b} = (ltb-true a b, lt-ltb a b)
 
 pub tells-at-most : {a b : ℕ} → Tells (leb a b) (a ≤ b)
 tells-at-most {a} {b} = (leb-true a b, le-leb a b)
+
+-- above, as not being at most
+pub tells-above : {a b : ℕ} → Tells (ltb a b) (b ≤ a → ⊥)
+tells-above {a} {b} = (λ h l. true≢false (sym h ∙ le-ltb a b l), λ n. lt-ltb a b (lt-of-not-le n))
 
 pub tells-not : {b : Bool} {P : Type 0} → Tells b P → Tells (not b) (P → ⊥)
 tells-not {b = true} t = (λ h. absurd (false≢true h), λ n. absurd (n (t .0 refl)))

@@ -3,6 +3,7 @@ pub mod Bags
 pub mod Carried
 pub mod Counts
 pub mod Demand1
+pub mod Demand1Bags
 pub mod Demand2
 pub mod Demand3
 pub mod History

@@ -1,3 +1,4 @@
+pub mod BagRefusals
 pub mod Bags
 pub mod Histories
 pub mod Pairs

@@ -2,13 +2,12 @@
 -- Assumes nothing.
 use Prim.Native.Nat.{ℕ}
 use mathlib.Core.Path.{_≡_, refl, sym, ap, _∙_}
-use mathlib.Core.Bool.{Bool, true, false, cond, not, _&&_, false≢true}
+use mathlib.Core.Bool.{Bool, true, false, not, _&&_, false≢true}
 use mathlib.Core.List.{List, [], _∷_, _++_, append-nil, append-assoc}
-use native.Mathlib.Omega.{arith}
 use borrow.Author.Tests.{eqb-true, eqb-false, not-true, not-false}
 use lib.Dec.{eqb}
 use Rattle.refusals.specs.declared.Answer.{Answer}
-use Rattle.refusals.specs.Table.{Row, row, answer, accepted, isAccepted, first, rowsIn, forEach, None, Decides, numbered}
+use Rattle.refusals.specs.Table.{Row, row, answer, accepted, isAccepted, first, rowsIn, forEach, None, numbered}
 
 -- a test is true or false
 pub by-test : {B : Type 0} (b : Bool) → (b ≡ true → B) → (b ≡ false → B) → B
@@ -51,27 +50,11 @@ first-none (r ∷ rs) n h =
     (λ e. absurd (numbered-here r rs n (ap (λ (a : Answer). a .number) (sym (first-here r rs e)) ∙ h)))
     (λ e. (e, first-none rs (numbered-next r rs n) (ap (λ (a : Answer). a .number) (sym (first-next r rs e)) ∙ h)))
 
--- the row that decides gives the answer; and a refusal was given by a row that decides
+-- rows of which none applies are passed over
 pub none-above : (a b : List Row) → None a → first (a ++ b) ≡ first b
 unfolding None
 none-above [] b h = refl
 none-above (r ∷ a) b h = first-next r (a ++ b) (h .0) ∙ none-above a b (h .1)
-
-pub decides-first : (rows : List Row) (n p : ℕ) → Decides rows n p → first rows ≡ answer n p
-decides-first rows n p d =
-    ap first (d .split) ∙ none-above (d .above) (d .here ∷ d .below) (d .quiet) ∙ first-here (d .here) (d .below) (d .holds) ∙ d .gives
-
-pub first-decides : (rows : List Row) (n p : ℕ) → (n ≡ 0 → ⊥) → first rows ≡ answer n p → Decides rows n p
-unfolding None first
-first-decides [] n p h e = absurd (h (sym (ap (λ (a : Answer). a .number) e)))
-first-decides (r ∷ rs) n p h e =
-    by-test (r .applies)
-    (λ t. record { above = []; here = r; below = rs; split = refl; quiet = tt; holds = t; gives = sym (first-here r rs t) ∙ e })
-    (λ t. later t (first-decides rs n p h (sym (first-next r rs t) ∙ e)))
-  where
-    later : r .applies ≡ false → Decides rs n p → Decides (r ∷ rs) n p
-    later t d =
-        record { above = r ∷ d .above; here = d .here; below = d .below; split = ap (λ (l : List Row). r ∷ l) (d .split); quiet = (t, d .quiet); holds = d .holds; gives = d .gives }
 
 -- a table of two parts: the first part's refusal, or else the second part's answer
 pub first-refused : (a b : List Row) → isAccepted (first a) ≡ false → first (a ++ b) ≡ first a

@@ -43,16 +43,6 @@ unfoldable pub None : List Row → Type 0
 None [] = Unit {0}
 None (r ∷ rs) = (r .applies ≡ false) × None rs
 
--- a row with that number and place applies, and no row above it does
-pub record Decides (rows : List Row) (n p : ℕ) : Type 0 where
-  pub above : List Row
-  pub here : Row
-  pub below : List Row
-  pub split : rows ≡ above ++ (here ∷ below)
-  pub quiet : None above
-  pub holds : here .applies ≡ true
-  pub gives : answer (here .number) (here .place) ≡ answer n p
-
 -- no row has the number 0, which stands for acceptance
 unfoldable pub numbered : List Row → Bool
 numbered [] = true

@@ -8,3 +8,4 @@ pub mod Demand2
 pub mod Demand3
 pub mod History
 pub mod OneCase
+pub mod Premises

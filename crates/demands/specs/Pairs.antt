@@ -1,18 +1,18 @@
 -- Two cases, judged one right after the other on one ledger, as the third demand speaks of them. What is said of them is the same when they change
 -- places.
 -- Assumes nothing.
-use Prim.Native.Nat.{ℕ, _+_, _≤_}
+use Prim.Native.Nat.{ℕ, _+_, _<_, _≤_}
 use mathlib.Core.Path.{_≡_}
 use mathlib.Core.Logic.{_⊎_}
 use mathlib.Core.Bool.{true}
-use mathlib.Core.List.{List, _++_}
+use mathlib.Core.List.{List, _++_, List·Memᴰ}
 use lib.ListN.{length}
 use Rattle.units.specs.Pairs.{ForBoth}
 use Rattle.refusals.specs.Table.{answer, accepted}
 use Rattle.casefile.specs.Fields.{hasLength, nullifierOf}
 use Rattle.tree.specs.Record.{grown}
 use Rattle.ledger.specs.Ledgers.{mostNullifiers, roomIn}
-use Rattle.demands.specs.Histories.{judged, Held, after, answerOn, ValidOn, commitmentsOf}
+use Rattle.demands.specs.Histories.{judged, Held, spentIn, after, answerOn, ValidOn, commitmentsOf}
 
 -- they share no nullifier; a file of the wrong length has none
 abbrev pub ShareNone : List ℕ → List ℕ → Type 0
@@ -33,6 +33,13 @@ pub data LowestShared (c d : List ℕ) : ℕ → Type 0 where
 -- the table has two free rows for each
 abbrev pub RoomForTwo : Held → Type 0
 RoomForTwo b = b .ledger .nullifiers + 4 ≤ roomIn mostNullifiers (length (b .table))
+
+-- what these two premises come to, of a ledger that c has been entered in: refusal 3 does not apply, and refusal 8 does not apply to d
+abbrev pub HasRoom : Held → Type 0
+HasRoom b = roomIn mostNullifiers (length (b .table)) < b .ledger .nullifiers + 2 → ⊥
+
+abbrev pub NoneSpent : List ℕ → Held → Type 0
+NoneSpent d b = ForBoth (λ i. List·Memᴰ (nullifierOf i d) (spentIn b) → ⊥)
 
 -- what is held after c and then d
 abbrev pub afterBoth : List ℕ → List ℕ → Held → Held

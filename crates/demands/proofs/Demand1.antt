@@ -20,8 +20,8 @@ use Rattle.casefile.specs.Fields.{hasLength}
 use Rattle.statement.specs.Conditions.{bothPublic, aboveMoney, outOfRange, strays, balanced, differs}
 use Rattle.statement.specs.CaseTable.{no1, no4, no5, no7, no9, no10, no11, no12, no13, no14, no15, no16, rangeOf, straysOf, balancedOf, nullifierWrong, addressWrong, tagWrong, rhoWrong, commitmentWrong, oldCommitmentOf, hSigOf}
 use Rattle.ledger.specs.declared.Ledger.{Ledger}
-use Rattle.ledger.specs.declared.order.Order.{Order}
-use Rattle.ledger.specs.declared.order.Order.the-variants.{Less, Equal, Greater}
+use Rattle.ledger.specs.declared.Order.{Order}
+use Rattle.ledger.specs.declared.Order.the-variants.{Less, Equal, Greater}
 use Rattle.ledger.specs.Sorted.{rising, isLess}
 use Rattle.ledger.specs.Rows.{byteOrder, among}
 use Rattle.ledger.specs.Ledgers.{mostAnchors, roomIn, spentRows, damage, damaged, some, no2, no3, no6, no8, closeTable, closedOf, rollAfterClose, openTable, startOf, openedOf, rollAfterOpen}

@@ -17,7 +17,7 @@ use Rattle.tree.specs.Record.{pathEnd}
 use Rattle.casefile.specs.Fields.{vpubOldOf, vpubNewOf, anchorOf, nullifierOf, commitmentOf, tagOf, oldKeyOf, oldAddressOf, oldValueOf, oldRhoOf, oldPositionOf, oldPathOf, newValueOf, newRhoOf, phiOf}
 use Rattle.statement.specs.Clauses.{LeavesFree}
 use Rattle.ledger.specs.declared.Ledger.{Ledger}
-use Rattle.ledger.specs.declared.order.Order.the-variants.{Less}
+use Rattle.ledger.specs.declared.Order.the-variants.{Less}
 use Rattle.ledger.specs.Rows.{byteOrder}
 use Rattle.ledger.specs.Ledgers.{mostNullifiers, mostAnchors, roomIn, spentRows, anchorRows}
 use Rattle.demands.specs.Validity.{oldNote, newNote, hSig}

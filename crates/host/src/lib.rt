@@ -32,7 +32,7 @@ pub extern "C" fn snaldrek_open(ledger: &mut [u8], roll: &mut [u8]) -> u32
     if ledger.len() != 988 {
         return code(Answer::refused(51, 1));
     }
-    let opened = ledger::open(roll);
+    let opened = judge::open(roll);
     ledgerbytes::write(ledger, opened.ledger);
     code(opened.answer)
 }
@@ -73,7 +73,7 @@ pub extern "C" fn snaldrek_close(ledger: &mut [u8], table: &[u8], roll: &mut [u8
         return code(Answer::refused(51, 1));
     }
     let kept = ledgerbytes::read(&*ledger);
-    let closed = ledger::close(table, roll, kept);
+    let closed = judge::close(table, roll, kept);
     let answer = closed.answer;
     if !answer.is_accepted() {
         return code(answer);

@@ -1,16 +1,88 @@
-// The judge: one case on one ledger. It asks in the order of the refusals' numbers and stops at the
-// first that applies; an accepted case is entered. What must hold of a case alone stands in
-// `statement`, what a ledger has to say in `ledger`; nothing of either is repeated here.
+// The judge: one case on one ledger, and the ledger's opening and closing. It asks in the order of the
+// refusals' numbers and stops at the first that applies; an accepted case is entered. Asking and entering
+// are private to this crate, so that nothing is entered that was not asked about. What must hold of a
+// case alone stands in `statement`, what a ledger is in `ledger`; nothing of either is repeated here.
+mod asking;
+mod entering;
+mod money;
+mod order;
+mod roll;
+mod table;
+
 ghost use mathlib.Core.Path.{_≡_};
 ghost use Rattle.refusals.specs.Table.{first, rowsIn};
 ghost use Rattle.casefile.specs.Fields.{vpubOldOf, vpubNewOf, nullifierOf, commitmentOf};
 ghost use Rattle.ledger.specs.Rows.{entered as enteredRows};
-ghost use Rattle.ledger.specs.Ledgers.{enteredOf, Ready};
+ghost use Rattle.ledger.specs.Ledgers.{enteredOf, Ready, closeTable, closedOf, rollAfterClose, startOf, openTable, openedOf, rollAfterOpen};
 ghost use Rattle.judge.specs.Judging.{frontTable, judgedOf, tableAfter};
+use asking::room_in;
+use asking::sound;
 use ledger::Answered;
 use ledger::Ledger;
+use ledger::Pool;
 use refusals::Answer;
+use tree::Tree;
 use units::Which;
+
+// A ledger with no nullifier and no leaf, and so many anchors.
+fn start(anchors: usize) -> Ledger
+    ensures { λ r. ⌜ r ≡ startOf anchors ⌝ }
+{
+    Ledger {
+        nullifiers: 0,
+        anchors: anchors,
+        tree: Tree::fresh(),
+        pool: Pool(0),
+    }
+}
+
+// Opens a fresh ledger. The table needs no byte of its own; the roll gets the empty tree's root.
+pub fn open(roll: &mut [u8]) -> Answered
+    ensures { λ r. ⌜ r .answer ≡ first (openTable (now (roll .entry))) ⌝ }
+    ensures { λ r. ⌜ r .ledger ≡ openedOf (now (roll .entry)) ⌝ }
+    ensures { λ _. ⌜ now (roll .exit) ≡ rollAfterOpen (now (roll .entry)) ⌝ }
+{
+    if room_in(1024, roll.len()) == 0 {
+        return Answered {
+            answer: Answer::refused(1, 0),
+            ledger: start(0),
+        };
+    }
+    let root = nodes::empty_root(29);
+    octets::copy_in(roll, 0, &root);
+    Answered {
+        answer: Answer::accepted(),
+        ledger: start(1),
+    }
+}
+
+// Closes a block: the current root goes onto the roll, even if it is the last one again.
+pub fn close(table: &[u8], roll: &mut [u8], ledger: Ledger) -> Answered
+    ensures { λ r. ⌜ r .answer ≡ first (closeTable (now (table .entry)) (now (roll .entry)) ledger) ⌝ }
+    ensures { λ r. ⌜ r .ledger ≡ closedOf (now (table .entry)) (now (roll .entry)) ledger ⌝ }
+    ensures { λ _. ⌜ now (roll .exit) ≡ rollAfterClose (now (table .entry)) (now (roll .entry)) ledger ⌝ }
+{
+    let a2 = sound(table, &*roll, ledger);
+    if !a2.is_accepted() {
+        return Answered { answer: a2, ledger };
+    }
+    let a = ledger.anchors;
+    if room_in(1024, roll.len()) <= a {
+        return Answered {
+            answer: Answer::refused(3, 0),
+            ledger,
+        };
+    }
+    let record = ledger.tree;
+    let root = record.root();
+    octets::copy_in(roll, a * 32, &root);
+    let mut next = ledger;
+    next.anchors = a + 1;
+    Answered {
+        answer: Answer::accepted(),
+        ledger: next,
+    }
+}
 
 // Enters an accepted case.
 fn entered(case: &[u8], table: &mut [u8], ledger: Ledger) -> Ledger
@@ -24,7 +96,7 @@ fn entered(case: &[u8], table: &mut [u8], ledger: Ledger) -> Ledger
     let commitment2 = casefile::commitment(case, Which::Second);
     let old = casefile::vpub_old(case);
     let new = casefile::vpub_new(case);
-    ledger::enter(
+    entering::enter(
         table,
         ledger,
         &one,
@@ -44,7 +116,7 @@ fn asked(case: &[u8], table: &[u8], roll: &[u8], ledger: Ledger) -> Answer
     let anchor = casefile::anchor(case);
     let one = casefile::nullifier(case, Which::First);
     let two = casefile::nullifier(case, Which::Second);
-    ledger::ask(table, roll, ledger, &anchor, &one, &two, own)
+    asking::ask(table, roll, ledger, &anchor, &one, &two, own)
 }
 
 pub fn judge(case: &[u8], table: &mut [u8], roll: &[u8], ledger: Ledger) -> Answered

@@ -14,7 +14,7 @@ use Rattle.octets.proofs.PartLaws.{pasted-is}
 use Rattle.octets.proofs.RowLaws.{rows-length, rows-at, flat-append, flat-rows}
 use Rattle.ledger.specs.Sorted.{row, isLess, isEqual, placeOf, isGap, rising, find}
 use Rattle.ledger.specs.Rows.{byteOrder, rowAt, shifted, withRow, among}
-use Rattle.ledger.specs.declared.order.Order.the-variants.{Less, Equal, Greater}
+use Rattle.ledger.specs.declared.Order.the-variants.{Less, Equal, Greater}
 use Rattle.ledger.specs.declared.Found.the-variants.{At, Gap}
 use Rattle.ledger.proofs.ByteOrder.{byte-total, same-order}
 use Rattle.ledger.proofs.Sorting.{rising-step, find-at, find-gap, place-le, insert-gap}

@@ -12,8 +12,8 @@ use Rattle.octets.specs.Rows.{rowsOf, flat, Long}
 use Rattle.octets.proofs.RowLaws.{rows-length, rows-long, rows-flat-on, flat-length}
 use Rattle.ledger.specs.Sorted.{isGap, rising, find, insert}
 use Rattle.ledger.specs.Rows.{byteOrder, withRow, entered, Fresh}
-use Rattle.ledger.specs.declared.order.Order.{Order}
-use Rattle.ledger.specs.declared.order.Order.the-variants.{Less, Equal, Greater}
+use Rattle.ledger.specs.declared.Order.{Order}
+use Rattle.ledger.specs.declared.Order.the-variants.{Less, Equal, Greater}
 use Rattle.ledger.proofs.ByteOrder.{byte-total, differ-order}
 use Rattle.ledger.proofs.Sorting.{length-insert, gap-same, gap-insert, rising-insert, pairs-comm}
 

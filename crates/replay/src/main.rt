@@ -79,7 +79,7 @@ fn opened(table: &mut [u8], roll: &mut [u8]) -> Answered
 {
     clear(table);
     clear(roll);
-    ledger::open(roll)
+    judge::open(roll)
 }
 
 // The bits of a pull that passed, which is no NaN: a NaN's bits cannot be read.
@@ -239,7 +239,7 @@ fn run_block(table: &[u8], roll: &mut [u8], state: State) -> State
 {
     let t = state.table;
     let r = state.roll;
-    let a = ledger::close(&table[0..t], &mut roll[0..r], state.ledger);
+    let a = judge::close(&table[0..t], &mut roll[0..r], state.ledger);
     print_line(b"block ", a.answer);
     let ledger = a.ledger;
     State {

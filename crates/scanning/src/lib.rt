@@ -23,7 +23,7 @@ pub fn scan_fresh(bag: &[u8]) -> Scanned
 {
     let mut table = [0u8; 65536];
     let mut roll = [0u8; 1024];
-    let opened = ledger::open(&mut roll);
+    let opened = judge::open(&mut roll);
     let fresh = opened.ledger;
     bag::scan(bag, calibration(), &mut table, &roll, fresh)
 }

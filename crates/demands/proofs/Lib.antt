@@ -7,5 +7,6 @@ pub mod Demand1Bags
 pub mod Demand2
 pub mod Demand3
 pub mod History
+pub mod Limits
 pub mod OneCase
 pub mod Premises

@@ -1,9 +1,10 @@
 -- Document 01's marked examples, each a test of the definitions, and the one statement that all of them pass.
 -- Assumes nothing.
-use Prim.Native.Nat.{ℕ, _-_, _^_}
+use Prim.Native.Nat.{ℕ, _+_, _-_, _*_, _%_, _^_, _<_}
 use mathlib.Core.Path.{_≡_, refl}
 use mathlib.Core.Bool.{Bool, true, not, _&&_}
 use mathlib.Core.List.{List, [], _∷_, _++_}
+use native.Mathlib.Omega.{arith}
 use lib.Dec.{eqb}
 use lib.ListN.{getD}
 use Rattle.octets.specs.Parts.{zeros, field, listed}
@@ -83,3 +84,20 @@ module _ (rest : List ℕ) where
       × ((rhoFrom 1 phi hSig ≡ compressOf ((0x25 ∷ rest) ++ hSig)) × (rhoFrom 2 phi hSig ≡ compressOf ((0x65 ∷ rest) ++ hSig))))))
   unfolding key phi withTag tagged addressFrom nullifierFrom macFrom rhoFrom
   marked-blocks rho hSig = (refl, (refl, (refl, (refl, (refl, refl)))))
+
+  -- THE TOP FOUR BITS of a key and of phi are dropped: with any of them set, each hash is that of the key without. n is those bits, x the four below
+  topped : ℕ → ℕ → List ℕ
+  topped n x = (16 * n + x) ∷ rest
+
+  dropped : (tag n x : ℕ) → x < 16 → withTag tag (topped n x) ≡ withTag tag (x ∷ rest)
+  unfolding withTag topped
+  dropped tag n x h =
+      let e : (16 * n + x) % 16 ≡ x % 16 = omega arith in
+      rw e
+
+  marked-keys : (n x : ℕ) → x < 16 → (s : List ℕ) → (addressFrom (topped n x) ≡ addressFrom (x ∷ rest))
+      × ((nullifierFrom (topped n x) s ≡ nullifierFrom (x ∷ rest) s)
+      × (((i : ℕ) → macFrom i (topped n x) s ≡ macFrom i (x ∷ rest) s) × ((i : ℕ) → rhoFrom i (topped n x) s ≡ rhoFrom i (x ∷ rest) s)))
+  unfolding tagged addressFrom nullifierFrom macFrom rhoFrom
+  marked-keys n x h s =
+      (rw (dropped addressTag n x h), (rw (dropped nullifierTag n x h), (λ i. rw (dropped (macTag i) n x h), λ i. rw (dropped (rhoTag i) n x h))))

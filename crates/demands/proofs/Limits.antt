@@ -1,0 +1,96 @@
+-- THE LIMITS of document 01, each at what is allowed and at one more, as tests of the definitions, and the one statement that all of them pass. A limit that
+-- was moved in definition and code alike is told by its number here.
+-- Assumes nothing.
+use Prim.Native.Nat.{ℕ, zero, suc, _+_, _-_, _*_, _^_, _<_}
+use mathlib.Core.Path.{_≡_, refl, _∙_}
+use mathlib.Core.Bool.{Bool, true, false, not, _&&_, and-true}
+use mathlib.Core.List.{List, [], _∷_, _++_}
+use native.Mathlib.Omega.{arith}
+use borrow.Author.Tests.{eq-eqb, le-leb, lt-leb}
+use lib.Dec.{eqb, leb}
+use lib.ListN.{length}
+use Rattle.octets.specs.Parts.{zeros, field, listed}
+use Rattle.octets.specs.Numbers.{little, littleBytes}
+use Rattle.octets.proofs.NumberLaws.{little-bytes}
+use Rattle.octets.proofs.PartLaws.{zeros-length}
+use Rattle.units.specs.Limits.{treeLeaves}
+use Rattle.sprout.specs.Hashes.{hasTopBits}
+use Rattle.statement.specs.Conditions.{aboveMoney, outOfRange}
+use Rattle.ledger.specs.Ledgers.{mostNullifiers, mostAnchors, roomIn}
+use Rattle.bag.specs.Contents.{rowCount, entryOf, inOrder, laidOut}
+use Rattle.books.specs.Tally.{isFull}
+
+-- each test passes
+every : List Bool → Bool
+every [] = true
+every (b ∷ bs) = b && every bs
+
+-- a lent length of so many rows and so many bytes more holds so many rows
+holds : ℕ → ℕ → ℕ → ℕ → Bool
+holds most rows more room = eqb (roomIn most (rows * 32 + more)) room
+
+-- a bag of n rows whose bodies are all empty
+emptyRows : ℕ → ℕ → ℕ → List ℕ
+emptyRows zero kind at = []
+emptyRows (suc n) kind at = (kind ∷ []) ++ littleBytes 4 at ++ littleBytes 4 0 ++ emptyRows n 2 at
+
+emptyBag : ℕ → List ℕ
+emptyBag n = littleBytes 2 n ++ emptyRows n 1 (2 + 9 * n)
+
+limits : List Bool
+limits =
+    -- rows of a table: rounded down, and 2,048 at most
+    holds mostNullifiers 0 31 0
+    ∷ holds mostNullifiers 1 0 1
+    ∷ holds mostNullifiers 2047 31 2047
+    ∷ holds mostNullifiers 2048 0 2048
+    ∷ holds mostNullifiers 2049 0 2048
+    ∷ holds mostNullifiers 65536 0 2048
+    -- rows of a roll: 1,024 at most
+    ∷ holds mostAnchors 0 31 0
+    ∷ holds mostAnchors 1 0 1
+    ∷ holds mostAnchors 1023 31 1023
+    ∷ holds mostAnchors 1024 0 1024
+    ∷ holds mostAnchors 1025 0 1024
+    ∷ holds mostAnchors 65536 0 1024
+    -- leaves of the tree, and positions
+    ∷ eqb treeLeaves 536870912
+    ∷ not (outOfRange (15 ∷ []) 536870911)
+    ∷ outOfRange (15 ∷ []) 536870912
+    -- keys of 252 bits
+    ∷ outOfRange (16 ∷ []) 0
+    -- all money
+    ∷ not (aboveMoney 2100000000000000)
+    ∷ aboveMoney 2100000000000001
+    -- rows of a bag: from 1 to 8
+    ∷ not (laidOut (emptyBag 0))
+    ∷ laidOut (emptyBag 1)
+    ∷ laidOut (emptyBag 2)
+    ∷ laidOut (emptyBag 8)
+    ∷ not (laidOut (emptyBag 9))
+    -- a tally's counts, below 2^32
+    ∷ not (isFull 4294967294)
+    ∷ isFull 4294967295
+    ∷ []
+
+all-limits : every limits ≡ true
+unfolding every holds emptyRows emptyBag limits roomIn hasTopBits outOfRange aboveMoney laidOut rowCount entryOf inOrder field listed little littleBytes
+all-limits = refl
+
+-- A BAG'S BYTES, 65,536 at most: of a bag with nothing but a seal's body of n zeros, which keeps to the layout in all else, that alone decides
+longBag : ℕ → List ℕ
+longBag n = (littleBytes 2 1 ++ (1 ∷ []) ++ littleBytes 4 11 ++ littleBytes 4 n) ++ zeros n
+
+long-length : (n : ℕ) → length (longBag n) ≡ 11 + n
+unfolding longBag littleBytes
+long-length n = omega (arith, zeros-length n)
+
+by-length : (n : ℕ) → n < 2 ^ 32 → laidOut (longBag n) ≡ leb (11 + n) 65536
+unfolding laidOut rowCount entryOf inOrder field listed little longBag littleBytes
+by-length n h =
+    let e = long-length n in
+    let f : little (littleBytes 4 n) ≡ n = little-bytes 4 n h in
+    rw (e, f, eq-eqb (11 + n) (11 + n) refl) (and-true (leb (11 + n) 65536 && true && true) ∙ and-true (leb (11 + n) 65536 && true) ∙ and-true (leb (11 + n) 65536))
+
+longest-bag : (laidOut (longBag 65525) ≡ true) × (laidOut (longBag 65526) ≡ false)
+longest-bag = (by-length 65525 (omega arith) ∙ le-leb 65536 65536 (omega arith), by-length 65526 (omega arith) ∙ lt-leb 65537 65536 (omega arith))

@@ -1,0 +1,4 @@
+pub mod AnswerLaws
+pub mod DecimalLaws
+pub mod HexLaws
+pub mod PenLaws

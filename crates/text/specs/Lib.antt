@@ -1,0 +1,5 @@
+pub mod Answers
+pub mod Decimal
+pub mod Hex
+pub mod Pen
+pub mod Words

@@ -4,7 +4,21 @@
 ghost use mathlib.Core.Path.{_≡_};
 ghost use Prim.Native.Nat.{_<_, _≤_, _+_, min};
 ghost use lib.ListN.{length};
+use libc::STDERR_FILENO;
 use libc::STDOUT_FILENO;
+
+// A whole text, and whether it could be written. A program has no exit status, so a failure is told on
+// standard error.
+pub fn print(text: &[u8]) -> bool {
+    if io::write_all(STDOUT_FILENO, text) {
+        return true;
+    }
+    io::write_all(
+        STDERR_FILENO,
+        b"the text could not be written to standard output\n",
+    );
+    false
+}
 
 pub fn text(words: &[u8]) {
     io::write_all(STDOUT_FILENO, words);

@@ -1,6 +1,6 @@
-// The scanner: one bag from standard input, its answers as lines on standard output. How a bag is scanned
-// and printed is left to `scanning`; what is read and printed cannot be said in a contract, so the stored
-// run holds it.
+// The scanner: one bag from standard input, its answers as lines on standard output. Which bytes those
+// lines are is the contract of `scanning::scan_lines`; that these bytes are read and those are written
+// cannot be said in a contract, so the stored run holds it.
 ghost use mathlib.Core.Path.{_≡_};
 ghost use lib.ListN.{length};
 use libc::STDIN_FILENO;
@@ -15,5 +15,7 @@ fn input_buffer() -> [u8; 65537]
 fn main() {
     let mut input = input_buffer();
     let n = io::read_full(STDIN_FILENO, &mut input);
-    scanning::print_scan(scanning::scan_fresh(&input[..n]));
+    let mut out = [0u8; 512];
+    let end = scanning::scan_lines(&input[..n], &mut out);
+    lines::print(&out[..end]);
 }

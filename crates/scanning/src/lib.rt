@@ -1,10 +1,16 @@
 // What every program that scans bags shares: a bag scanned on a fresh ledger with gain 1 and offset 0,
-// and its answers as lines on standard output. What a bag is and what it is answered is left to `bag`,
-// where the bytes come from to the programs.
+// and its answers as lines of text in memory. What a bag is and what it is answered is left to `bag`,
+// where the bytes come from and where the lines go to the programs.
 ghost use mathlib.Core.Path.{_≡_};
+ghost use Prim.Native.Nat.{min};
+ghost use lib.ListN.{take};
+ghost use Rattle.text.specs.Decimal.{signed};
+ghost use Rattle.text.specs.Pen.{pen, Wrote, Rendered};
+ghost use Rattle.scanning.specs.Lines.{caseLines, ledgerLine, linesOf};
 ghost use Rattle.scanning.specs.Setting.{calibrated, freshScan};
 use bag::Scanned;
 use ledger::Ledger;
+use ledger::Pool;
 use refusals::Answer;
 use seal::Calibration;
 
@@ -28,57 +34,71 @@ pub fn scan_fresh(bag: &[u8]) -> Scanned
     bag::scan(bag, calibration(), &mut table, &roll, fresh)
 }
 
-fn wide(x: u8) -> u64 {
-    x as u64
-}
-
-// A word, the number and the place.
-fn print_answer(word: &[u8], a: Answer) {
-    lines::text(word);
-    lines::text(b" ");
-    lines::number(wide(a.number));
-    lines::text(b" ");
-    lines::number(wide(a.place));
-    lines::end();
-}
-
-fn print_case(a: Answer) {
-    print_answer(b"case", a);
+fn at_most_7(n: usize) -> usize
+    ensures { λ r. ⌜ r ≡ min n 7 ⌝ }
+{
+    if n < 7 { n } else { 7 }
 }
 
 // The answers of the first n cases.
-fn print_cases(answers: [Answer; 7], n: usize) {
-    for i in 0..7 {
-        if i < n {
-            print_case(answers[i]);
-        }
+fn put_cases(out: &mut [u8], at: usize, answers: [Answer; 7], n: usize) -> usize
+    ensures { λ r. ⌜ Wrote 329 (caseLines (take n answers)) (pen (now (out .entry)) at) (pen (now (out .exit)) r) ⌝ }
+{
+    let mut next = at;
+    let most = at_most_7(n);
+    for i in 0..most {
+        next = text::put_answer_line(out, next, b"case", answers[i]);
     }
+    next
 }
 
-fn print_ledger(l: Ledger) {
-    lines::text(b"ledger spent ");
-    lines::number(l.nullifiers as u64);
-    lines::text(b" leaves ");
-    lines::number(l.tree.leaves as u64);
-    lines::text(b" pool ");
-    let pool = l.pool;
-    lines::signed(pool.0 < 0, pool.size());
-    lines::end();
+pub fn put_pool(out: &mut [u8], at: usize, pool: Pool) -> usize
+    ensures { λ r. ⌜ Wrote 21 (signed (pool .0)) (pen (now (out .entry)) at) (pen (now (out .exit)) r) ⌝ }
+{
+    let size = pool.size();
+    text::put_signed(out, at, pool.0 < 0, size)
+}
+
+fn put_ledger(out: &mut [u8], at: usize, l: Ledger) -> usize
+    ensures { λ r. ⌜ Wrote 89 (ledgerLine l) (pen (now (out .entry)) at) (pen (now (out .exit)) r) ⌝ }
+{
+    let tree = l.tree;
+    let spent = text::put_count(out, at, b"ledger spent ", l.nullifiers as u64);
+    let leaves = text::put_count(out, spent, b" leaves ", tree.leaves as u64);
+    let named = text::put(out, leaves, b" pool ");
+    let money = put_pool(out, named, l.pool);
+    text::put(out, money, b"\n")
 }
 
 // A refused layout and a refused seal have one line, and nothing after it.
-pub fn print_scan(s: Scanned) {
+fn put_scan(out: &mut [u8], s: Scanned) -> usize
+    ensures { λ r. ⌜ Wrote 465 (linesOf s) (pen (now (out .entry)) 0) (pen (now (out .exit)) r) ⌝ }
+{
     let layout = s.layout;
-    let seal = s.seal;
-    if !layout.is_accepted() {
-        print_answer(b"bag", layout);
-        return;
+    if layout.is_accepted() {
+        let seal = s.seal;
+        let sealed = text::put_answer_line(out, 0, b"seal", seal);
+        if seal.is_accepted() {
+            let answers = s.answers;
+            let judged = put_cases(out, sealed, answers, s.cases);
+            return put_ledger(out, judged, s.ledger);
+        }
+        return sealed;
     }
-    print_answer(b"seal", seal);
-    if !seal.is_accepted() {
-        return;
-    }
-    let answers = s.answers;
-    print_cases(answers, s.cases);
-    print_ledger(s.ledger);
+    text::put_answer_line(out, 0, b"bag", layout)
+}
+
+// The lines of a scan, from the start of a buffer that always has room for them. What lies behind them
+// is as it was.
+pub fn render(s: Scanned, out: &mut [u8; 512]) -> usize
+    ensures { λ r. ⌜ Rendered (linesOf s) (now (out .entry)) (now (out .exit)) r ⌝ }
+{
+    put_scan(out, s)
+}
+
+// A bag scanned on a fresh ledger, and the lines of that.
+pub fn scan_lines(bag: &[u8], out: &mut [u8; 512]) -> usize
+    ensures { λ r. ⌜ Rendered (linesOf (freshScan (now (bag .entry)))) (now (out .entry)) (now (out .exit)) r ⌝ }
+{
+    render(scan_fresh(bag), out)
 }

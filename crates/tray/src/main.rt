@@ -1,10 +1,17 @@
 // A tray of bags from standard input, one after the other, each behind its length in four bytes. Each is
 // scanned on a fresh ledger of its own and has the lines that the scanner prints of it; how is left to
-// `scanning`. A program has one stored run, and this one's holds as many bags as there are edges to show.
+// `scanning`. Which bytes those lines are is the contract of `put_next`. A program has one stored run, and
+// this one's holds as many bags as there are edges to show.
+ghost use mathlib.Core.Path.{_≡_};
 ghost use Prim.Native.Nat.{_≤_};
 ghost use lib.ListN.{length};
-ghost use Rattle.tray.specs.Tray.{lengthOf};
+ghost use Rattle.refusals.specs.Table.{answer};
+ghost use Rattle.text.specs.Words.{ascii};
+ghost use Rattle.text.specs.Answers.{answerLine};
+ghost use Rattle.text.specs.Pen.{Rendered};
+ghost use Rattle.tray.specs.Tray.{lengthOf, isBag, linesFor};
 use libc::STDIN_FILENO;
+use refusals::Answer;
 
 // What comes next on the tray: a bag and its length, the end, or no whole bag.
 pub enum Next {
@@ -36,25 +43,41 @@ fn read_next(buffer: &mut [u8]) -> Next
     Next::Bag(n)
 }
 
-fn print_broken() {
-    lines::text(b"tray 50 0");
-    lines::end();
+fn is_bag(next: Next) -> bool
+    ensures { λ r. ⌜ r ≡ isBag next ⌝ }
+{
+    match next {
+        Next::Bag(_) => true,
+        Next::End => false,
+        Next::Broken => false,
+    }
+}
+
+// The refusal of what is no whole bag.
+fn put_broken(out: &mut [u8; 512]) -> usize
+    ensures { λ r. ⌜ Rendered (answerLine (ascii "tray") (answer 50 0)) (now (out .entry)) (now (out .exit)) r ⌝ }
+{
+    text::put_answer_line(out, 0, b"tray", Answer::refused(50, 0))
+}
+
+// The lines for what stands next, from the start of a buffer that always has room for them.
+fn put_next(next: Next, buffer: &[u8], out: &mut [u8; 512]) -> usize
+    requires { ⌜ lengthOf next ≤ length (now buffer) ⌝ }
+    ensures { λ r. ⌜ Rendered (linesFor next (now (buffer .entry))) (now (out .entry)) (now (out .exit)) r ⌝ }
+{
+    match next {
+        Next::Bag(n) => scanning::scan_lines(&buffer[..n], out),
+        Next::End => 0,
+        Next::Broken => put_broken(out),
+    }
 }
 
 // One bag, and whether the run goes on after it.
 fn turn(buffer: &mut [u8]) -> bool {
     let next = read_next(buffer);
-    match next {
-        Next::Bag(n) => {
-            scanning::print_scan(scanning::scan_fresh(&buffer[0..n]));
-            true
-        }
-        Next::End => false,
-        Next::Broken => {
-            print_broken();
-            false
-        }
-    }
+    let mut out = [0u8; 512];
+    let end = put_next(next, buffer, &mut out);
+    lines::print(&out[..end]) && is_bag(next)
 }
 
 // A proved loop has to end, and nothing says that a tray does: the turns count down from a number that

@@ -1,0 +1,51 @@
+-- The pieces that the calls write are the lines of the definition.
+-- Assumes nothing.
+use Prim.Native.Nat.{ℕ, _≤_, _<_, min}
+use mathlib.Core.Path.{_≡_, sym, _∙_}
+use mathlib.Core.Bool.{true, false}
+use mathlib.Core.List.{List, _++_, append-assoc}
+use native.Mathlib.Nat.{lt-of-not-le}
+use native.Mathlib.Decide.{decLe}
+use native.Mathlib.Omega.{arith}
+use lib.ListN.{length, take}
+use lib.Seq.{take-all}
+use Rattle.text.specs.Words.{ascii}
+use Rattle.text.specs.Decimal.{decimal, signed}
+use Rattle.text.specs.Answers.{answerLine}
+use Rattle.refusals.specs.declared.Answer.{Answer}
+use Rattle.refusals.specs.Table.{isAccepted}
+use Rattle.bag.specs.declared.Scanned.{Scanned}
+use Rattle.ledger.specs.declared.Ledger.{Ledger}
+use Rattle.scanning.specs.Lines.{caseLines, ledgerLine, linesOf}
+
+pub ledger-as : (l : Ledger)
+    → (ascii "ledger spent " ++ decimal (l .nullifiers)) ++ ((ascii " leaves " ++ decimal (l .tree .leaves)) ++ (ascii " pool " ++ (signed (l .pool .0) ++ ascii "\n")))
+    ≡ ledgerLine l
+unfolding ledgerLine
+ledger-as l = simp append-assoc
+
+-- no more than there are
+pub take-min : (n k : ℕ) (l : List Answer) → length l ≡ k → take (min n k) l ≡ take n l
+take-min n k l h = go (decLe n k)
+  where
+    go : Dec (n ≤ k) → take (min n k) l ≡ take n l
+    go (yes e) =
+        let f : min n k ≡ n = omega arith in
+        rw f
+    go (no e) =
+        let f : k < n = lt-of-not-le e in
+        take-all (min n k) l (omega arith) ∙ sym (take-all n l (omega arith))
+
+-- all lines, by what was refused
+pub lines-bag : (s : Scanned) → isAccepted (s .layout) ≡ false → answerLine (ascii "bag") (s .layout) ≡ linesOf s
+unfolding linesOf
+lines-bag s h = rw h
+
+pub lines-seal : (s : Scanned) → isAccepted (s .layout) ≡ true → isAccepted (s .seal) ≡ false → answerLine (ascii "seal") (s .seal) ≡ linesOf s
+unfolding linesOf
+lines-seal s h k = rw (h, k)
+
+pub lines-all : (s : Scanned) → isAccepted (s .layout) ≡ true → isAccepted (s .seal) ≡ true
+    → answerLine (ascii "seal") (s .seal) ++ caseLines (take (s .cases) (s .answers)) ++ ledgerLine (s .ledger) ≡ linesOf s
+unfolding linesOf
+lines-all s h k = rw (h, k)

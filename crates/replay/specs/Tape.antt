@@ -1,11 +1,131 @@
--- What the tape's bodies say.
+-- What each entry of a tape leaves and prints. body is the entry's body, t and r are the buffers for the nullifier table and the anchor roll, s is what
+-- was kept from the entry before: the ledger, and how many bytes of each buffer are lent to it.
 -- Assumes nothing.
-use Prim.Native.Nat.{ℕ, _≤_}
-use mathlib.Core.List.{List}
-use lib.ListN.{length}
+use Prim.Native.Nat.{ℕ, _+_, _≤_}
+use Prim.Native.String.{String}
+use mathlib.Core.Path.{_≡_}
+use mathlib.Core.Bool.{Bool, true, false, _&&_, cond}
+use mathlib.Core.List.{List, [], _++_}
+use lib.Dec.{eqb, leb}
+use lib.ListN.{length, take, drop, getD}
+use Rattle.octets.specs.Numbers.{little}
+use Rattle.octets.specs.Parts.{zeros, field}
+use Rattle.text.specs.Words.{ascii}
+use Rattle.text.specs.Answers.{answerLine}
+use Rattle.text.specs.Pen.{pen, Wrote}
+use Rattle.refusals.specs.Table.{answer, accepted, first}
+use Rattle.ledger.specs.declared.Ledger.{Ledger}
+use Rattle.ledger.specs.Ledgers.{startOf, openTable, openedOf, rollAfterOpen, closeTable, closedOf, rollAfterClose}
+use Rattle.ledgerbytes.specs.Keeping.{ledgerOf}
+use Rattle.judge.specs.Judging.{answerOf, ledgerAfter, tableAfter}
 use Rattle.replay.specs.declared.State.{State}
+use Rattle.replay.specs.declared.Ran.{Ran}
 use Rattle.replay.specs.declared.Next.{Next}
 use Rattle.replay.specs.declared.Next.the-variants.{Entry, End, Broken}
+use Rattle.replay.specs.Looks.{ledgerText, rowsText, memoryText, sealText}
+
+-- what an entry leaves, and what is printed of it
+pub record Turn : Type 0 where
+  pub state : State
+  pub table : List ℕ
+  pub roll : List ℕ
+  pub text : List ℕ
+
+abbrev pub turn : State → List ℕ → List ℕ → List ℕ → Turn
+turn s t r x = record { state = s; table = t; roll = r; text = x }
+
+-- the run goes on with this ledger, on n bytes of the table's buffer and m of the roll's
+abbrev pub goesOn : Ledger → ℕ → ℕ → State
+goesOn l n m = record { on = true; ledger = l; table = n; roll = m }
+
+-- a ledger with nothing in it, not even an anchor, on no bytes: before the first entry, and after the run
+abbrev pub nothing : Bool → State
+nothing on = record { on = on; ledger = startOf 0; table = 0; roll = 0 }
+
+-- what is no entry ends the run
+unfoldable pub brokenTurn : List ℕ → List ℕ → Turn
+brokenTurn t r = turn (nothing false) t r (answerLine (ascii "tape") (answer 50 0))
+
+-- an entry's kind is the code of a letter
+abbrev pub isKind : String → ℕ → Bool
+isKind letter kind = eqb kind (getD (ascii letter) 0 0)
+
+-- an entry that lends n and m bytes: its body is whole, and the buffers have so many
+unfoldable pub canLend : Bool → ℕ → ℕ → ℕ → ℕ → Bool
+canLend whole n m table roll = whole && (leb n table && leb m roll)
+
+-- O OPENS a fresh ledger on zeroed bytes. Body: how many of the table (4) and of the roll (4)
+unfoldable pub openOn : ℕ → ℕ → List ℕ → List ℕ → Turn
+openOn n m t r =
+    turn (goesOn (openedOf (zeros m)) n m) (zeros n ++ drop n t) (rollAfterOpen (zeros m) ++ drop m r)
+    (answerLine (ascii "open") (first (openTable (zeros m))))
+
+unfoldable pub openIf : ℕ → ℕ → List ℕ → List ℕ → List ℕ → Turn
+openIf n m body t r = cond (canLend (eqb (length body) 8) n m (length t) (length r)) (openOn n m t r) (brokenTurn t r)
+
+unfoldable pub openTurn : List ℕ → List ℕ → List ℕ → Turn
+openTurn body t r = openIf (little (field 0 4 body)) (little (field 4 4 body)) body t r
+
+-- P PLANTS any ledger, a damaged one too. Body: the ledger (988), how many bytes of the table (4) and of the roll (4), and those bytes
+unfoldable pub plantOn : ℕ → ℕ → List ℕ → List ℕ → List ℕ → Turn
+plantOn n m body t r =
+    turn (goesOn (ledgerOf body) n m) (field 996 n body ++ drop n t) (field (996 + n) m body ++ drop m r) (answerLine (ascii "plant") accepted)
+
+unfoldable pub plantIf : ℕ → ℕ → List ℕ → List ℕ → List ℕ → Turn
+plantIf n m body t r = cond (canLend (eqb (length body) (996 + n + m)) n m (length t) (length r)) (plantOn n m body t r) (brokenTurn t r)
+
+unfoldable pub plantTurn : List ℕ → List ℕ → List ℕ → Turn
+plantTurn body t r = plantIf (little (field 988 4 body)) (little (field 992 4 body)) body t r
+
+-- C JUDGES a case, which is the body
+unfoldable pub caseOn : ℕ → ℕ → Ledger → List ℕ → List ℕ → List ℕ → Turn
+caseOn n m l body t r =
+    turn (goesOn (ledgerAfter body (take n t) (take m r) l) n m) (tableAfter body (take n t) (take m r) l ++ drop n t) r
+    (answerLine (ascii "case") (answerOf body (take n t) (take m r) l))
+
+unfoldable pub caseTurn : List ℕ → List ℕ → List ℕ → State → Turn
+caseTurn body t r s = caseOn (s .table) (s .roll) (s .ledger) body t r
+
+-- B CLOSES a block
+unfoldable pub blockOn : ℕ → ℕ → Ledger → List ℕ → List ℕ → Turn
+blockOn n m l t r =
+    turn (goesOn (closedOf (take n t) (take m r) l) n m) t (rollAfterClose (take n t) (take m r) l ++ drop m r)
+    (answerLine (ascii "block") (first (closeTable (take n t) (take m r) l)))
+
+unfoldable pub blockTurn : List ℕ → List ℕ → State → Turn
+blockTurn t r s = blockOn (s .table) (s .roll) (s .ledger) t r
+
+-- L, R and M LOOK at the ledger, at its rows and at its memory
+unfoldable pub lookTurn : ℕ → List ℕ → List ℕ → State → Turn
+lookTurn kind t r s =
+    cond (isKind "L" kind) (turn s t r (ledgerText (s .ledger)))
+    (cond (isKind "R" kind) (turn s t r (rowsText (take (s .table) t) (take (s .roll) r) (s .ledger)))
+    (cond (isKind "M" kind) (turn s t r (memoryText (take (s .table) t) (take (s .roll) r) (s .ledger)))
+    (brokenTurn t r)))
+
+-- B and those three have an empty body
+unfoldable pub bareTurn : ℕ → List ℕ → List ℕ → State → Turn
+bareTurn kind t r s = cond (isKind "B" kind) (blockTurn t r s) (lookTurn kind t r s)
+
+-- S JUDGES A SEAL. Body: the gain (8), the offset (8) and the seal (25)
+unfoldable pub sealTurn : List ℕ → List ℕ → List ℕ → State → Turn
+sealTurn body t r s = cond (eqb (length body) 41) (turn s t r (sealText body)) (brokenTurn t r)
+
+-- AN ENTRY by its kind
+unfoldable pub entryTurn : ℕ → List ℕ → List ℕ → List ℕ → State → Turn
+entryTurn kind body t r s =
+    cond (isKind "O" kind) (openTurn body t r)
+    (cond (isKind "P" kind) (plantTurn body t r)
+    (cond (isKind "C" kind) (caseTurn body t r s)
+    (cond (isKind "S" kind) (sealTurn body t r s)
+    (cond (eqb (length body) 0) (bareTurn kind t r s)
+    (brokenTurn t r)))))
+
+-- WHAT STANDS NEXT on the tape, whose body was read to the start of the buffer b: at the end nothing is printed
+unfoldable pub nextTurn : Next → List ℕ → List ℕ → List ℕ → State → Turn
+nextTurn (Entry kind n) b t r s = entryTurn kind (take n b) t r s
+nextTurn End b t r s = turn (nothing false) t r []
+nextTurn Broken b t r s = brokenTurn t r
 
 -- how many bytes an entry's body has
 abbrev pub lengthOf : Next → ℕ
@@ -17,3 +137,16 @@ lengthOf Broken = 0
 pub record Within (s : State) (t r : List ℕ) : Type 0 where
   pub table : s .table ≤ length t
   pub roll : s .roll ≤ length r
+
+-- the longest text of an entry: 2,048 lines of 71 bytes and 1,024 of 72
+abbrev pub longest : ℕ
+longest = 219136
+
+-- THE CONTRACT of whatever plays an entry: the state that it answers, the buffers t and r that it leaves, and the text, from the start of the page m on,
+-- are those of the turn u. The last part follows; it is what the next entry asks
+pub record Plays (u : Turn) (t r m m′ : List ℕ) (a : Ran) : Type 0 where
+  pub state : a .state ≡ u .state
+  pub table : t ≡ u .table
+  pub roll : r ≡ u .roll
+  pub text : Wrote longest (u .text) (pen m 0) (pen m′ (a .end))
+  pub within : Within (a .state) t r

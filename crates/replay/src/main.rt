@@ -1,15 +1,24 @@
 // A whole shift from a tape: entries that open, plant, judge and close, read from standard input one
 // after the other, and a line printed for each. It keeps one ledger and the two buffers lent to it.
-// What an entry's answer is, is left to `judge`, `ledger` and `seal`.
+// What an entry leaves and which bytes are printed of it is the contract of `play_next`. What its answer
+// is, is left to `judge`, `ledger` and `seal`.
 ghost use mathlib.Core.Path.{_≡_};
-ghost use mathlib.Core.Bool.{false, cond};
-ghost use Prim.Native.Nat.{_≤_, _/_, min};
+ghost use mathlib.Core.Bool.{false};
+ghost use Prim.Native.Nat.{_+_, _*_, _≤_, min};
+ghost use mathlib.Core.List.{_++_};
 ghost use lib.ListN.{length};
-ghost use lib.Ieee.{binary64, isNan, toBits};
 ghost use Rattle.octets.specs.Parts.{zeros};
-ghost use Rattle.refusals.specs.Table.{first};
-ghost use Rattle.ledger.specs.Ledgers.{startOf, openTable, openedOf, rollAfterOpen};
-ghost use Rattle.replay.specs.Tape.{lengthOf, Within};
+ghost use Rattle.refusals.specs.Table.{first, answer};
+ghost use Rattle.sha256.specs.Hash.{sha256Of};
+ghost use Rattle.tree.specs.Record.{recordRoot};
+ghost use Rattle.ledger.specs.Ledgers.{openTable, openedOf, rollAfterOpen, roomIn};
+ghost use Rattle.text.specs.Words.{ascii};
+ghost use Rattle.text.specs.Decimal.{signed};
+ghost use Rattle.text.specs.Answers.{answerWords, answerLine};
+ghost use Rattle.text.specs.Hex.{hex, hex64};
+ghost use Rattle.text.specs.Pen.{pen, Wrote};
+ghost use Rattle.replay.specs.Looks.{ledgerText, rowLine, rowLines, rowsText, memoryText, bitsOf, sealedText, sealText};
+ghost use Rattle.replay.specs.Tape.{nothing as nothingOf, goesOn, canLend, openTurn, plantTurn, caseTurn, blockTurn, lookTurn, bareTurn, entryTurn, nextTurn, lengthOf, longest, Within, Plays};
 use ledger::Answered;
 use ledger::Ledger;
 use ledger::Pool;
@@ -29,19 +38,17 @@ pub struct State {
     pub roll: usize,
 }
 
+// What is kept after an entry, and where its text ends.
+pub struct Ran {
+    pub state: State,
+    pub end: usize,
+}
+
 // What comes next on the tape: an entry's kind and its body's length, the end, or no entry.
 pub enum Next {
     Entry(u8, usize),
     End,
     Broken,
-}
-
-fn wide(x: u32) -> u64 {
-    x as u64
-}
-
-fn wide8(x: u8) -> u64 {
-    x as u64
 }
 
 fn clear(bytes: &mut [u8])
@@ -54,7 +61,7 @@ fn clear(bytes: &mut [u8])
 
 // A ledger with nothing in it, not even an anchor, on buffers of no length.
 fn nothing(on: bool) -> State
-    ensures { λ r. ⌜ (r .on ≡ on) × ((r .ledger ≡ startOf 0) × ((r .table ≡ 0) × (r .roll ≡ 0))) ⌝ }
+    ensures { λ r. ⌜ r ≡ nothingOf on ⌝ }
 {
     let ledger = Ledger {
         nullifiers: 0,
@@ -84,7 +91,7 @@ fn opened(table: &mut [u8], roll: &mut [u8]) -> Answered
 
 // The bits of a pull that passed, which is no NaN: a NaN's bits cannot be read.
 fn bits_of(pull: f64) -> u64
-    ensures { λ r. ⌜ r ≡ cond (isNan pull) 0 (toBits binary64 pull) ⌝ }
+    ensures { λ r. ⌜ r ≡ bitsOf pull ⌝ }
 {
     if pull != pull {
         return 0;
@@ -92,199 +99,119 @@ fn bits_of(pull: f64) -> u64
     f64::to_bits(pull)
 }
 
-// A word, with the space after it, and a number.
-fn print_number(word: &[u8], n: u64) {
-    lines::text(word);
-    lines::number(n);
+// A word and bytes as hexadecimal digits: a row, a root or a hash.
+fn put_named(out: &mut [u8], at: usize, word: &[u8], bytes: &[u8; 32]) -> usize
+    ensures { λ r. ⌜ Wrote (length (now (word .entry)) + 64) (now (word .entry) ++ hex (now (bytes .entry))) (pen (now (out .entry)) at) (pen (now (out .exit)) r) ⌝ }
+{
+    let next = text::put(out, at, word);
+    text::put_hex(out, next, bytes)
 }
 
-fn print_answer(word: &[u8], a: Answer) {
-    print_number(word, wide8(a.number));
-    print_number(b" ", wide8(a.place));
-}
-
-fn print_line(word: &[u8], a: Answer) {
-    print_answer(word, a);
-    lines::end();
-}
-
-fn print_pool(pool: Pool) {
-    lines::text(b" pool ");
-    lines::signed(pool.0 < 0, pool.size());
-}
-
-fn print_ledger(l: Ledger) {
+// The end of the line about a ledger: its pool and its root.
+fn put_pool_and_root(out: &mut [u8], at: usize, l: Ledger) -> usize
+    ensures { λ r. ⌜ Wrote 103 (ascii " pool " ++ signed (l .pool .0) ++ ascii " root " ++ hex (recordRoot (l .tree)) ++ ascii "\n") (pen (now (out .entry)) at) (pen (now (out .exit)) r) ⌝ }
+{
     let tree = l.tree;
-    print_number(b"ledger spent ", l.nullifiers as u64);
-    print_number(b" leaves ", wide(tree.leaves));
-    print_number(b" anchors ", l.anchors as u64);
-    print_pool(l.pool);
-    lines::text(b" root ");
+    let named = text::put(out, at, b" pool ");
+    let money = scanning::put_pool(out, named, l.pool);
     let root = tree.root();
-    lines::hex(&root);
-    lines::end();
+    let rooted = put_named(out, money, b" root ", &root);
+    text::put(out, rooted, b"\n")
 }
 
-// How many of the rows that a count claims so many bytes have.
-fn rows_in(count: usize, len: usize) -> usize
-    ensures { λ r. ⌜ r ≡ min count (len / 32) ⌝ }
+fn put_ledger(out: &mut [u8], l: Ledger) -> usize
+    ensures { λ r. ⌜ Wrote 200 (ledgerText l) (pen (now (out .entry)) 0) (pen (now (out .exit)) r) ⌝ }
+{
+    let tree = l.tree;
+    let spent = text::put_count(out, 0, b"ledger spent ", l.nullifiers as u64);
+    let leaves = text::put_count(out, spent, b" leaves ", tree.leaves as u64);
+    let anchors = text::put_count(out, leaves, b" anchors ", l.anchors as u64);
+    put_pool_and_root(out, anchors, l)
+}
+
+// How many of the rows that a count claims so many bytes have room for, of at most so many.
+fn rows_shown(most: usize, count: usize, len: usize) -> usize
+    ensures { λ r. ⌜ r ≡ min count (roomIn most len) ⌝ }
 {
     let n = len / 32;
-    if count < n { count } else { n }
+    let room = if n < most { n } else { most };
+    if count < room { count } else { room }
 }
 
-fn print_rows(word: &[u8], bytes: &[u8], count: usize) {
-    let n = rows_in(count, bytes.len());
+fn put_row(out: &mut [u8], at: usize, word: &[u8], row: &[u8; 32]) -> usize
+    ensures { λ r. ⌜ Wrote (length (now (word .entry)) + 65) (rowLine (now (word .entry)) (now (row .entry))) (pen (now (out .entry)) at) (pen (now (out .exit)) r) ⌝ }
+{
+    let next = put_named(out, at, word, row);
+    text::put(out, next, b"\n")
+}
+
+fn put_rows(out: &mut [u8], at: usize, word: &[u8], n: usize, bytes: &[u8]) -> usize
+    requires { ⌜ n * 32 ≤ length (now bytes) ⌝ }
+    ensures { λ r. ⌜ Wrote ((length (now (word .entry)) + 65) * n) (rowLines (now (word .entry)) n (now (bytes .entry))) (pen (now (out .entry)) at) (pen (now (out .exit)) r) ⌝ }
+{
+    let mut next = at;
     for i in 0..n {
-        lines::text(word);
         let row = octets::part32(bytes, i * 32);
-        lines::hex(&row);
-        lines::end();
+        next = put_row(out, next, word, &row);
     }
+    next
 }
 
-fn print_sealed(s: Sealed) {
-    print_answer(b"seal ", s.answer());
-    match s {
-        Sealed::Passed(pull) => {
-            lines::text(b" ");
-            lines::hex64(bits_of(pull));
-        }
-        Sealed::BadLimit => {}
-        Sealed::NotFinite => {}
-        Sealed::Outside => {}
-    }
-    lines::end();
-}
-
-// Whatever breaks the tape's layout ends the run.
-fn broken() -> State
-    ensures { λ r. ⌜ (r .on ≡ false) × ((r .table ≡ 0) × (r .roll ≡ 0)) ⌝ }
+fn put_all_rows(out: &mut [u8], table: &[u8], roll: &[u8], l: Ledger) -> usize
+    ensures { λ r. ⌜ Wrote longest (rowsText (now (table .entry)) (now (roll .entry)) l) (pen (now (out .entry)) 0) (pen (now (out .exit)) r) ⌝ }
 {
-    print_line(b"tape ", Answer::refused(50, 0));
-    nothing(false)
-}
-
-fn run_open(body: &[u8], table: &mut [u8], roll: &mut [u8]) -> State
-    ensures { λ r. ⌜ Within r (now (table .exit)) (now (roll .exit)) ⌝ }
-{
-    let t = octets::le32(body, 0) as usize;
-    let r = octets::le32(body, 4) as usize;
-    if body.len() != 8 {
-        return broken();
-    }
-    if table.len() < t {
-        return broken();
-    }
-    if roll.len() < r {
-        return broken();
-    }
-    let a = opened(&mut table[0..t], &mut roll[0..r]);
-    print_line(b"open ", a.answer);
-    let ledger = a.ledger;
-    State {
-        on: true,
-        ledger,
-        table: t,
-        roll: r,
-    }
-}
-
-fn run_plant(body: &[u8], table: &mut [u8], roll: &mut [u8]) -> State
-    ensures { λ r. ⌜ Within r (now (table .exit)) (now (roll .exit)) ⌝ }
-{
-    let t = octets::le32(body, 988) as usize;
-    let r = octets::le32(body, 992) as usize;
-    if body.len() != 996 + t + r {
-        return broken();
-    }
-    if table.len() < t {
-        return broken();
-    }
-    if roll.len() < r {
-        return broken();
-    }
-    octets::fill(&mut table[0..t], body, 996);
-    octets::fill(&mut roll[0..r], body, 996 + t);
-    print_line(b"plant ", Answer::accepted());
-    let ledger = ledgerbytes::read(body);
-    State {
-        on: true,
-        ledger,
-        table: t,
-        roll: r,
-    }
-}
-
-fn run_case(body: &[u8], table: &mut [u8], roll: &[u8], state: State) -> State
-    requires { ⌜ Within state (now table) (now roll) ⌝ }
-    ensures { λ r. ⌜ Within r (now (table .exit)) (now (roll .entry)) ⌝ }
-{
-    let t = state.table;
-    let r = state.roll;
-    let a = judge::judge(body, &mut table[0..t], &roll[0..r], state.ledger);
-    print_line(b"case ", a.answer);
-    let ledger = a.ledger;
-    State {
-        on: true,
-        ledger,
-        table: t,
-        roll: r,
-    }
-}
-
-fn run_block(table: &[u8], roll: &mut [u8], state: State) -> State
-    requires { ⌜ Within state (now table) (now roll) ⌝ }
-    ensures { λ r. ⌜ Within r (now (table .entry)) (now (roll .exit)) ⌝ }
-{
-    let t = state.table;
-    let r = state.roll;
-    let a = judge::close(&table[0..t], &mut roll[0..r], state.ledger);
-    print_line(b"block ", a.answer);
-    let ledger = a.ledger;
-    State {
-        on: true,
-        ledger,
-        table: t,
-        roll: r,
-    }
-}
-
-fn run_rows(table: &[u8], roll: &[u8], state: State)
-    requires { ⌜ Within state (now table) (now roll) ⌝ }
-{
-    let t = state.table;
-    let r = state.roll;
-    let l = state.ledger;
-    print_rows(b"spent ", &table[0..t], l.nullifiers);
-    print_rows(b"anchor ", &roll[0..r], l.anchors);
+    let n = rows_shown(2048, l.nullifiers, table.len());
+    let m = rows_shown(1024, l.anchors, roll.len());
+    let next = put_rows(out, 0, b"spent ", n, table);
+    put_rows(out, next, b"anchor ", m, roll)
 }
 
 // A word and the hash of some bytes, so that many bytes are compared by one short line.
-fn print_hash(word: &[u8], bytes: &[u8]) {
-    lines::text(word);
+fn put_hash(out: &mut [u8], at: usize, word: &[u8], bytes: &[u8]) -> usize
+    ensures { λ r. ⌜ Wrote (length (now (word .entry)) + 64) (now (word .entry) ++ hex (sha256Of (now (bytes .entry)))) (pen (now (out .entry)) at) (pen (now (out .exit)) r) ⌝ }
+{
     let h = sha256::hash(bytes);
-    lines::hex(&h);
+    put_named(out, at, word, &h)
 }
 
 // What no answer shows: every lent byte, the spare ones too, and every node of the record, the unused
 // ones too.
-fn run_memory(table: &[u8], roll: &[u8], state: State)
-    requires { ⌜ Within state (now table) (now roll) ⌝ }
+fn put_memory(out: &mut [u8], table: &[u8], roll: &[u8], l: Ledger) -> usize
+    ensures { λ r. ⌜ Wrote 202 (memoryText (now (table .entry)) (now (roll .entry)) l) (pen (now (out .entry)) 0) (pen (now (out .exit)) r) ⌝ }
 {
-    let t = state.table;
-    let r = state.roll;
-    let l = state.ledger;
     let tree = l.tree;
     let nodes = tree.nodes;
-    print_hash(b"memory ", &table[0..t]);
-    print_hash(b" ", &roll[0..r]);
-    print_hash(b" ", &nodes);
-    lines::end();
+    let first = put_hash(out, 0, b"memory ", table);
+    let second = put_hash(out, first, b" ", roll);
+    let third = put_hash(out, second, b" ", &nodes);
+    text::put(out, third, b"\n")
 }
 
-fn run_seal(body: &[u8])
+// A seal that passed: its pull behind the answer.
+fn put_passed(out: &mut [u8], a: Answer, pull: f64) -> usize
+    ensures { λ r. ⌜ Wrote 64 (answerWords (ascii "seal") a ++ ascii " " ++ hex64 (bitsOf pull) ++ ascii "\n") (pen (now (out .entry)) 0) (pen (now (out .exit)) r) ⌝ }
+{
+    let answered = text::put_answer(out, 0, b"seal", a);
+    let spaced = text::put(out, answered, b" ");
+    let pulled = text::put_hex64(out, spaced, bits_of(pull));
+    text::put(out, pulled, b"\n")
+}
+
+fn put_sealed(out: &mut [u8], s: Sealed) -> usize
+    ensures { λ r. ⌜ Wrote 64 (sealedText s) (pen (now (out .entry)) 0) (pen (now (out .exit)) r) ⌝ }
+{
+    let a = s.answer();
+    match s {
+        Sealed::Passed(pull) => put_passed(out, a, pull),
+        Sealed::BadLimit => text::put_answer_line(out, 0, b"seal", a),
+        Sealed::NotFinite => text::put_answer_line(out, 0, b"seal", a),
+        Sealed::Outside => text::put_answer_line(out, 0, b"seal", a),
+    }
+}
+
+fn put_seal(out: &mut [u8], body: &[u8]) -> usize
     requires { ⌜ length (now body) ≡ 41 ⌝ }
+    ensures { λ r. ⌜ Wrote 64 (sealText (now (body .entry))) (pen (now (out .entry)) 0) (pen (now (out .exit)) r) ⌝ }
 {
     let c = Calibration {
         gain: seal::float_at(body, 0),
@@ -292,58 +219,161 @@ fn run_seal(body: &[u8])
     };
     let read = seal::read_body(&body[16..41]);
     match read {
-        Read::Seal(gate, raw) => print_sealed(seal::judge(c, gate, raw)),
-        Read::Broken => print_line(b"seal ", Answer::refused(20, 0)),
+        Read::Seal(gate, raw) => put_sealed(out, seal::judge(c, gate, raw)),
+        Read::Broken => text::put_answer_line(out, 0, b"seal", Answer::refused(20, 0)),
     }
+}
+
+// Whatever breaks the tape's layout ends the run.
+fn broken(out: &mut [u8]) -> Ran
+    ensures { λ r. ⌜ r .state ≡ nothingOf false ⌝ }
+    ensures { λ r. ⌜ Wrote 47 (answerLine (ascii "tape") (answer 50 0)) (pen (now (out .entry)) 0) (pen (now (out .exit)) (r .end)) ⌝ }
+{
+    let end = text::put_answer_line(out, 0, b"tape", Answer::refused(50, 0));
+    let state = nothing(false);
+    Ran { state, end }
+}
+
+// Whether an entry's body is whole and the buffers have the bytes that it lends.
+fn can_lend(whole: bool, n: usize, m: usize, table: usize, roll: usize) -> bool
+    ensures { λ r. ⌜ r ≡ canLend whole n m table roll ⌝ }
+{
+    if whole {
+        if n <= table {
+            return m <= roll;
+        }
+    }
+    false
+}
+
+fn going_on(ledger: Ledger, table: usize, roll: usize) -> State
+    ensures { λ r. ⌜ r ≡ goesOn ledger table roll ⌝ }
+{
+    State {
+        on: true,
+        ledger,
+        table,
+        roll,
+    }
+}
+
+fn run_open(body: &[u8], table: &mut [u8], roll: &mut [u8], out: &mut [u8]) -> Ran
+    ensures { λ a. ⌜ Plays (openTurn (now (body .entry)) (now (table .entry)) (now (roll .entry))) (now (table .exit)) (now (roll .exit)) (now (out .entry)) (now (out .exit)) a ⌝ }
+{
+    let n = octets::le32(body, 0) as usize;
+    let m = octets::le32(body, 4) as usize;
+    if can_lend(body.len() == 8, n, m, table.len(), roll.len()) {
+        let a = opened(&mut table[..n], &mut roll[..m]);
+        let end = text::put_answer_line(out, 0, b"open", a.answer);
+        let state = going_on(a.ledger, n, m);
+        return Ran { state, end };
+    }
+    broken(out)
+}
+
+fn run_plant(body: &[u8], table: &mut [u8], roll: &mut [u8], out: &mut [u8]) -> Ran
+    ensures { λ a. ⌜ Plays (plantTurn (now (body .entry)) (now (table .entry)) (now (roll .entry))) (now (table .exit)) (now (roll .exit)) (now (out .entry)) (now (out .exit)) a ⌝ }
+{
+    let n = octets::le32(body, 988) as usize;
+    let m = octets::le32(body, 992) as usize;
+    if can_lend(body.len() == 996 + n + m, n, m, table.len(), roll.len()) {
+        octets::fill(&mut table[..n], body, 996);
+        octets::fill(&mut roll[..m], body, 996 + n);
+        let end = text::put_answer_line(out, 0, b"plant", Answer::accepted());
+        let state = going_on(ledgerbytes::read(body), n, m);
+        return Ran { state, end };
+    }
+    broken(out)
+}
+
+fn run_case(body: &[u8], table: &mut [u8], roll: &[u8], state: State, out: &mut [u8]) -> Ran
+    requires { ⌜ Within state (now table) (now roll) ⌝ }
+    ensures { λ a. ⌜ Plays (caseTurn (now (body .entry)) (now (table .entry)) (now (roll .entry)) state) (now (table .exit)) (now (roll .entry)) (now (out .entry)) (now (out .exit)) a ⌝ }
+{
+    let n = state.table;
+    let m = state.roll;
+    let a = judge::judge(body, &mut table[..n], &roll[..m], state.ledger);
+    let end = text::put_answer_line(out, 0, b"case", a.answer);
+    let state = going_on(a.ledger, n, m);
+    Ran { state, end }
+}
+
+fn run_block(table: &[u8], roll: &mut [u8], state: State, out: &mut [u8]) -> Ran
+    requires { ⌜ Within state (now table) (now roll) ⌝ }
+    ensures { λ a. ⌜ Plays (blockTurn (now (table .entry)) (now (roll .entry)) state) (now (table .entry)) (now (roll .exit)) (now (out .entry)) (now (out .exit)) a ⌝ }
+{
+    let n = state.table;
+    let m = state.roll;
+    let a = judge::close(&table[..n], &mut roll[..m], state.ledger);
+    let end = text::put_answer_line(out, 0, b"block", a.answer);
+    let state = going_on(a.ledger, n, m);
+    Ran { state, end }
+}
+
+// Entries that look at the ledger, its rows or its memory, and change nothing.
+fn run_look(kind: u8, table: &[u8], roll: &[u8], state: State, out: &mut [u8]) -> Ran
+    requires { ⌜ Within state (now table) (now roll) ⌝ }
+    ensures { λ a. ⌜ Plays (lookTurn kind (now (table .entry)) (now (roll .entry)) state) (now (table .entry)) (now (roll .entry)) (now (out .entry)) (now (out .exit)) a ⌝ }
+{
+    let n = state.table;
+    let m = state.roll;
+    if kind == b'L' {
+        let end = put_ledger(out, state.ledger);
+        return Ran { state, end };
+    }
+    if kind == b'R' {
+        let end = put_all_rows(out, &table[..n], &roll[..m], state.ledger);
+        return Ran { state, end };
+    }
+    if kind == b'M' {
+        let end = put_memory(out, &table[..n], &roll[..m], state.ledger);
+        return Ran { state, end };
+    }
+    broken(out)
 }
 
 // Entries whose body is empty.
-fn run_bare(kind: u8, table: &[u8], roll: &mut [u8], state: State) -> State
+fn run_bare(kind: u8, table: &[u8], roll: &mut [u8], state: State, out: &mut [u8]) -> Ran
     requires { ⌜ Within state (now table) (now roll) ⌝ }
-    ensures { λ r. ⌜ Within r (now (table .entry)) (now (roll .exit)) ⌝ }
+    ensures { λ a. ⌜ Plays (bareTurn kind (now (table .entry)) (now (roll .entry)) state) (now (table .entry)) (now (roll .exit)) (now (out .entry)) (now (out .exit)) a ⌝ }
 {
     if kind == b'B' {
-        return run_block(table, roll, state);
+        return run_block(table, roll, state, out);
     }
-    if kind == b'L' {
-        print_ledger(state.ledger);
-        return state;
-    }
-    if kind == b'R' {
-        run_rows(table, roll, state);
-        return state;
-    }
-    if kind == b'M' {
-        run_memory(table, roll, state);
-        return state;
-    }
-    broken()
+    run_look(kind, table, roll, state, out)
 }
 
-fn run(kind: u8, body: &[u8], table: &mut [u8], roll: &mut [u8], state: State) -> State
+fn run(
+    kind: u8,
+    body: &[u8],
+    table: &mut [u8],
+    roll: &mut [u8],
+    state: State,
+    out: &mut [u8],
+) -> Ran
     requires { ⌜ Within state (now table) (now roll) ⌝ }
-    ensures { λ r. ⌜ Within r (now (table .exit)) (now (roll .exit)) ⌝ }
+    ensures { λ a. ⌜ Plays (entryTurn kind (now (body .entry)) (now (table .entry)) (now (roll .entry)) state) (now (table .exit)) (now (roll .exit)) (now (out .entry)) (now (out .exit)) a ⌝ }
 {
     if kind == b'O' {
-        return run_open(body, table, roll);
+        return run_open(body, table, roll, out);
     }
     if kind == b'P' {
-        return run_plant(body, table, roll);
+        return run_plant(body, table, roll, out);
     }
     if kind == b'C' {
-        return run_case(body, table, roll, state);
+        return run_case(body, table, roll, state, out);
     }
     if kind == b'S' {
-        if body.len() != 41 {
-            return broken();
+        if body.len() == 41 {
+            let end = put_seal(out, body);
+            return Ran { state, end };
         }
-        run_seal(body);
-        return state;
+        return broken(out);
     }
-    if body.len() != 0 {
-        return broken();
+    if body.len() == 0 {
+        return run_bare(kind, table, roll, state, out);
     }
-    run_bare(kind, table, roll, state)
+    broken(out)
 }
 
 // Reads the next entry's body to the start of a buffer as long as the longest body. A read that fails
@@ -369,34 +399,63 @@ fn read_next(buffer: &mut [u8]) -> Next
     Next::Entry(octets::byte_from(&head, 0, 0), n)
 }
 
-fn turn(buffer: &mut [u8], table: &mut [u8], roll: &mut [u8], state: State) -> State
+// Plays what stands next. Its text is written from the start of a buffer that always has room for it.
+fn play_next(
+    next: Next,
+    buffer: &[u8],
+    table: &mut [u8],
+    roll: &mut [u8],
+    state: State,
+    out: &mut [u8],
+) -> Ran
+    requires { ⌜ lengthOf next ≤ length (now buffer) ⌝ }
+    requires { ⌜ Within state (now table) (now roll) ⌝ }
+    ensures { λ a. ⌜ Plays (nextTurn next (now (buffer .entry)) (now (table .entry)) (now (roll .entry)) state) (now (table .exit)) (now (roll .exit)) (now (out .entry)) (now (out .exit)) a ⌝ }
+{
+    match next {
+        Next::Entry(kind, n) => run(kind, &buffer[..n], table, roll, state, out),
+        Next::End => {
+            let state = nothing(false);
+            Ran { state, end: 0 }
+        }
+        Next::Broken => broken(out),
+    }
+}
+
+// Plays and prints what stands next. A run whose text cannot be written ends.
+fn turn(buffer: &mut [u8], table: &mut [u8], roll: &mut [u8], state: State, out: &mut [u8]) -> State
+    requires { ⌜ longest ≤ length (now out) ⌝ }
     requires { ⌜ Within state (now table) (now roll) ⌝ }
     ensures { λ r. ⌜ Within r (now (table .exit)) (now (roll .exit)) ⌝ }
 {
     let next = read_next(buffer);
-    match next {
-        Next::Entry(kind, n) => run(kind, &buffer[0..n], table, roll, state),
-        Next::End => nothing(false),
-        Next::Broken => broken(),
+    let ran = play_next(next, buffer, table, roll, state, out);
+    let end = ran.end;
+    if lines::print(&out[..end]) {
+        return ran.state;
     }
+    nothing(false)
 }
 
 // A proved loop has to end, and nothing says that a tape does: the turns count down from a number
 // that no run uses up.
-fn play(buffer: &mut [u8], table: &mut [u8], roll: &mut [u8]) {
+fn play(buffer: &mut [u8], table: &mut [u8], roll: &mut [u8], out: &mut [u8])
+    requires { ⌜ longest ≤ length (now out) ⌝ }
+{
     let mut state = nothing(true);
     let mut turns = u64::MAX;
     while turns > 0 && state.on {
-        state = turn(buffer, table, roll, state);
+        state = turn(buffer, table, roll, state, out);
         turns -= 1;
     }
 }
 
-// The longest body, table and roll that a tape may have. A table of 65,567 bytes has the 2,048 rows that
-// a ledger may use and 31 bytes more, a roll of 32,799 bytes the 1,024 and 31 more.
+// The longest body, table, roll and text that a tape may have. A table of 65,567 bytes has the 2,048 rows
+// that a ledger may use and 31 bytes more, a roll of 32,799 bytes the 1,024 and 31 more.
 fn main() {
     let mut buffer = [0u8; 131072];
     let mut table = [0u8; 65567];
     let mut roll = [0u8; 32799];
-    play(&mut buffer, &mut table, &mut roll);
+    let mut out = [0u8; 219136];
+    play(&mut buffer, &mut table, &mut roll, &mut out);
 }

@@ -1,4 +1,3 @@
-use mathlib.Core.Path.{refl}
 use Rattle.ledger.specs.Ledgers.{startOf}
 use borrow.Author.Needs.{needs}
 use Rattle.replay.proofs.nothing.Statement.{statement}
@@ -6,7 +5,7 @@ use Rattle.replay.proofs.nothing.Tie as tie
 
 returns : tie.Need-returns
 unfolding startOf
-returns c = (refl, (cc (c .fresh .ensures), (refl, refl)))
+returns c = cc (c .fresh .ensures)
 
 pub nothing-spec : {M : Type 1} → statement M
 nothing-spec = tie.close (tie.spec (λ c κs. search needs) returns)

@@ -1,15 +1,21 @@
-use mathlib.Core.Path.{_≡_}
+use mathlib.Core.Path.{_≡_, refl, ap}
+use native.Mathlib.Omega.{arith}
 use lib.ListN.{length}
+use Rattle.replay.specs.declared.State.{State}
 use Rattle.replay.specs.Tape.{Within}
 use borrow.Author.Needs.{needs}
 use Rattle.replay.proofs.play.Statement.{statement}
 use Rattle.replay.proofs.play.Tie as tie
 
 abbrev Inv-loop : tie.InvT-loop
-Inv-loop buffer₀ table₀ roll₀ state₀ turns₀ buffer table roll state turns = (length buffer ≡ length buffer₀) × ((length table ≡ length table₀) × ((length roll ≡ length roll₀) × Within state table roll))
+Inv-loop buffer₀ table₀ roll₀ out₀ state₀ turns₀ buffer table roll out state turns =
+    (length buffer ≡ length buffer₀) × ((length table ≡ length table₀) × ((length roll ≡ length roll₀) × ((length out ≡ length out₀) × Within state table roll)))
 
 abbrev μ-loop : tie.MeasureT-loop
-μ-loop buffer₀ table₀ roll₀ state₀ turns₀ buffer table roll state turns = turns
+μ-loop buffer₀ table₀ roll₀ out₀ state₀ turns₀ buffer table roll out state turns = turns
+
+loop-holds : tie.Need-loop-holds Inv-loop μ-loop
+loop-holds c = (refl, (refl, (refl, (refl, record { table = omega (arith, ap (λ (z : State). z .table) (c .nothing .ensures)); roll = omega (arith, ap (λ (z : State). z .roll) (c .nothing .ensures)) }))))
 
 pub play-spec : {M : Type 1} → statement M
 play-spec =
@@ -18,8 +24,10 @@ play-spec =
     Inv-loop
     μ-loop
     (λ c κs. search needs)
-    (λ c. search needs)
+    loop-holds
     (λ c κs. search needs)
+    (λ c. search needs)
+    (λ c. search needs)
     (λ c. search needs)
     (λ c. search needs)
     (λ c. search needs)

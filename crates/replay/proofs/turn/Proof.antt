@@ -1,36 +1,48 @@
-use mathlib.Core.Path.{_≡_, ap}
+use mathlib.Core.Path.{ap}
 use native.Mathlib.Omega.{arith}
-use Rattle.replay.specs.Tape.{lengthOf}
+use Rattle.text.proofs.PenLaws.{rendered}
+use Rattle.replay.specs.declared.State.{State}
 use borrow.Author.Needs.{needs}
 use Rattle.replay.proofs.turn.Statement.{statement}
 use Rattle.replay.proofs.turn.Tie as tie
 
-part-run-end : tie.Need-part-run-end
-part-run-end c =
-    let g = c .before .before .next .given in
-    let r = c .before .before .before .before .before .before .read-next in
-    let e : lengthOf (r .result) ≡ g .0 .1 .0 = ap lengthOf (g .1) in
-    omega (arith, r .ensures)
+returns : tie.Need-returns
+returns c =
+    let p = c .before .before .before .before .before .before .before .before .before .before in
+    p .play-next .ensures .within
+
+returns-2 : tie.Need-returns-2
+returns-2 c = record { table = omega (arith, ap (λ (z : State). z .table) (c .nothing .ensures)); roll = omega (arith, ap (λ (z : State). z .roll) (c .nothing .ensures)) }
+
+slice-reshare-prefix-print : tie.Need-slice-reshare-prefix-print
+slice-reshare-prefix-print c =
+    let p = c .before .before .before .before .before .before in
+    let s = p .before .before .before .before .before .before .before .before .before .before .before .before .before in
+    rendered (s .pre .0) (p .play-next .ensures .text) .inside
+
+slice-aggregate-print : tie.Need-slice-aggregate-print
+slice-aggregate-print c =
+    let p = c .before .before .before .before .before .before .before in
+    let s = p .before .before .before .before .before .before .before .before .before .before .before .before .before in
+    rendered (s .pre .0) (p .play-next .ensures .text) .long
 
 pub turn-spec : {M : Type 1} → statement M
 turn-spec =
     tie.close
     (tie.spec
     (λ c κs. search needs)
-    (λ c. search needs)
-    (λ c. search needs)
-    (λ c. search needs)
-    part-run-end
     (λ c κs. search needs)
-    (λ c. search needs)
-    (λ c κs. search needs)
-    (λ c. search needs)
+    slice-reshare-prefix-print
+    slice-aggregate-print
     (λ c κs. search needs)
     (λ c. search needs)
     (λ c. search needs)
     (λ c. search needs)
     (λ c. search needs)
+    returns
+    (λ c κs. search needs)
     (λ c. search needs)
     (λ c. search needs)
     (λ c. search needs)
-    (λ c. search needs))
+    (λ c. search needs)
+    returns-2)

@@ -1,0 +1,65 @@
+-- Which turn an entry has, by its kind's code and its body's length.
+-- Assumes nothing.
+use Prim.Native.Nat.{ℕ}
+use mathlib.Core.Path.{_≡_}
+use mathlib.Core.List.{List}
+use lib.ListN.{length, take}
+use borrow.Author.Tests.{ne-eqb}
+use Rattle.replay.specs.declared.State.{State}
+use Rattle.replay.specs.Looks.{ledgerText, rowsText, memoryText, sealText}
+use Rattle.replay.specs.Tape.{turn, brokenTurn, openTurn, plantTurn, caseTurn, blockTurn, lookTurn, bareTurn, sealTurn, entryTurn}
+
+module _ (kind : ℕ) (t r : List ℕ) (s : State) where
+  pub look-ledger : kind ≡ 76 → turn s t r (ledgerText (s .ledger)) ≡ lookTurn kind t r s
+  unfolding lookTurn
+  look-ledger h = rw h
+
+  pub look-rows : kind ≡ 82 → turn s t r (rowsText (take (s .table) t) (take (s .roll) r) (s .ledger)) ≡ lookTurn kind t r s
+  unfolding lookTurn
+  look-rows h = rw h
+
+  pub look-memory : kind ≡ 77 → turn s t r (memoryText (take (s .table) t) (take (s .roll) r) (s .ledger)) ≡ lookTurn kind t r s
+  unfolding lookTurn
+  look-memory h = rw h
+
+  pub look-other : (kind ≡ 76 → ⊥) → (kind ≡ 82 → ⊥) → (kind ≡ 77 → ⊥) → brokenTurn t r ≡ lookTurn kind t r s
+  unfolding lookTurn
+  look-other a b d = rw (ne-eqb kind 76 a, ne-eqb kind 82 b, ne-eqb kind 77 d)
+
+  pub bare-block : kind ≡ 66 → blockTurn t r s ≡ bareTurn kind t r s
+  unfolding bareTurn
+  bare-block h = rw h
+
+  pub bare-other : (kind ≡ 66 → ⊥) → lookTurn kind t r s ≡ bareTurn kind t r s
+  unfolding bareTurn
+  bare-other a = rw (ne-eqb kind 66 a)
+
+  module _ (body : List ℕ) where
+    pub entry-open : kind ≡ 79 → openTurn body t r ≡ entryTurn kind body t r s
+    unfolding entryTurn
+    entry-open h = rw h
+
+    pub entry-plant : kind ≡ 80 → plantTurn body t r ≡ entryTurn kind body t r s
+    unfolding entryTurn
+    entry-plant h = rw h
+
+    pub entry-case : kind ≡ 67 → caseTurn body t r s ≡ entryTurn kind body t r s
+    unfolding entryTurn
+    entry-case h = rw h
+
+    pub entry-seal : kind ≡ 83 → length body ≡ 41 → turn s t r (sealText body) ≡ entryTurn kind body t r s
+    unfolding entryTurn sealTurn
+    entry-seal h k = rw (h, k)
+
+    pub entry-no-seal : kind ≡ 83 → (length body ≡ 41 → ⊥) → brokenTurn t r ≡ entryTurn kind body t r s
+    unfolding entryTurn sealTurn
+    entry-no-seal h k = rw (h, ne-eqb (length body) 41 k)
+
+    module _ (o : kind ≡ 79 → ⊥) (p : kind ≡ 80 → ⊥) (c : kind ≡ 67 → ⊥) (z : kind ≡ 83 → ⊥) where
+      pub entry-bare : length body ≡ 0 → bareTurn kind t r s ≡ entryTurn kind body t r s
+      unfolding entryTurn
+      entry-bare h = rw (ne-eqb kind 79 o, ne-eqb kind 80 p, ne-eqb kind 67 c, ne-eqb kind 83 z, h)
+
+      pub entry-other : (length body ≡ 0 → ⊥) → brokenTurn t r ≡ entryTurn kind body t r s
+      unfolding entryTurn
+      entry-other h = rw (ne-eqb kind 79 o, ne-eqb kind 80 p, ne-eqb kind 67 c, ne-eqb kind 83 z, ne-eqb (length body) 0 h)

@@ -1,0 +1,4 @@
+pub mod Examples
+mod KindLaws
+mod LookLaws
+mod TurnLaws

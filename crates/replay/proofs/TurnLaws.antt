@@ -1,0 +1,151 @@
+-- What a run of an entry's calls leaves and writes is the turn of the definition. n and m are the bytes lent of the buffers t and r, p and q what the
+-- calls left in them, x and x′ the page before and after, s the state that is answered and e the text's end.
+-- Assumes nothing.
+use Prim.Native.Nat.{ℕ, _+_, _≤_}
+use mathlib.Core.Path.{_≡_, refl, sym, ap, subst, _∙_}
+use mathlib.Core.Bool.{Bool, true, false}
+use mathlib.Core.List.{List, [], _++_}
+use native.Mathlib.Omega.{arith}
+use lib.Dec.{eqb, leb}
+use lib.ListN.{length, take, drop, length-append}
+use lib.Seq.{length-take-le}
+use borrow.Author.Tests.{leb-true}
+use Rattle.octets.specs.Numbers.{little}
+use Rattle.octets.specs.Parts.{zeros, field}
+use Rattle.octets.proofs.PartLaws.{zeros-length, field-length}
+use Rattle.text.specs.Words.{ascii}
+use Rattle.text.specs.Answers.{answerLine}
+use Rattle.text.specs.Pen.{pen, Wrote}
+use Rattle.text.proofs.PenLaws.{start, text-as}
+use Rattle.refusals.specs.declared.Answer.{Answer}
+use Rattle.refusals.specs.Table.{answer, accepted, first}
+use Rattle.refusals.proofs.TableLaws.{and-both}
+use Rattle.ledger.specs.declared.Ledger.{Ledger}
+use Rattle.ledger.specs.declared.Answered.{Answered}
+use Rattle.ledger.specs.Ledgers.{openTable, openedOf, rollAfterOpen, closeTable, closedOf, rollAfterClose}
+use Rattle.ledgerbytes.specs.Keeping.{ledgerOf}
+use Rattle.judge.specs.Judging.{tableAfter, judgedOf}
+use Rattle.replay.specs.declared.State.{State}
+use Rattle.replay.specs.declared.Ran.{Ran}
+use Rattle.replay.specs.Tape.{Turn, turn, goesOn, nothing, brokenTurn, longest, canLend, openOn, openIf, openTurn, plantOn, plantIf, plantTurn, caseOn, caseTurn, blockOn, blockTurn, Within, Plays}
+
+-- the same turn by another name
+pub plays-as : {u v : Turn} {t r x x′ : List ℕ} {a : Ran} → u ≡ v → Plays u t r x x′ a → Plays v t r x x′ a
+plays-as {t = t} {r = r} {x = x} {x′ = x′} {a = a} e h = subst (λ (w : Turn). Plays w t r x x′ a) e h
+
+-- a text that changes nothing
+pub plays-text : {t r x x′ y : List ℕ} {b e : ℕ} {s : State} → b ≤ longest → Within s t r → Wrote b y (pen x 0) (pen x′ e) → Plays (turn s t r y) t r x x′ (record { state = s; end = e })
+plays-text h w k = record { state = refl; table = refl; roll = refl; text = text-as h refl k; within = w }
+
+-- the end of the run
+pub plays-broken : {t r x x′ : List ℕ} {a : Ran} → a .state ≡ nothing false → Wrote 47 (answerLine (ascii "tape") (answer 50 0)) (pen x 0) (pen x′ (a .end)) → Plays (brokenTurn t r) t r x x′ a
+unfolding brokenTurn
+plays-broken {a = a} h k =
+    record {
+      state = h;
+      table = refl;
+      roll = refl;
+      text = text-as (omega arith) refl k;
+      within = record { table = omega (arith, ap (λ (s : State). s .table) h); roll = omega (arith, ap (λ (s : State). s .roll) h) };
+    }
+
+pub plays-end : {t r x : List ℕ} {s : State} → s ≡ nothing false → Plays (turn (nothing false) t r []) t r x x (record { state = s; end = 0 })
+plays-end h =
+    record {
+      state = h;
+      table = refl;
+      roll = refl;
+      text = text-as (omega arith) refl (start _);
+      within = record { table = omega (arith, ap (λ (z : State). z .table) h); roll = omega (arith, ap (λ (z : State). z .roll) h) };
+    }
+
+-- a text, and the ledger that goes on with it
+plays-answer : {n m e b : ℕ} {l : Ledger} {t r x x′ y : List ℕ} {s : State} → b ≤ longest → s ≡ goesOn l n m → n ≤ length t → m ≤ length r
+    → Wrote b y (pen x 0) (pen x′ e) → Plays (turn (goesOn l n m) t r y) t r x x′ (record { state = s; end = e })
+plays-answer h k i j w =
+    record {
+      state = k;
+      table = refl;
+      roll = refl;
+      text = text-as h refl w;
+      within = record { table = omega (arith, ap (λ (z : State). z .table) k); roll = omega (arith, ap (λ (z : State). z .roll) k) };
+    }
+
+-- the bytes that an entry lends are there, and are still there once a call wrote as many over them
+pub lent-table : {b : Bool} (w : Bool) (n m table roll : ℕ) → b ≡ canLend w n m table roll → b ≡ true → n ≤ table
+unfolding canLend
+lent-table w n m table roll h k = leb-true n table (and-both (leb n table) (leb m roll) (and-both w _ (sym h ∙ k) .1) .0)
+
+pub lent-roll : {b : Bool} (w : Bool) (n m table roll : ℕ) → b ≡ canLend w n m table roll → b ≡ true → m ≤ roll
+unfolding canLend
+lent-roll w n m table roll h k = leb-true m roll (and-both (leb n table) (leb m roll) (and-both w _ (sym h ∙ k) .1) .1)
+
+still : (n : ℕ) (p t : List ℕ) → length p ≡ n → n ≤ length (p ++ drop n t)
+still n p t h = omega (arith, length-append p (drop n t))
+
+-- O
+pub open-plays : (body t r p q x x′ : List ℕ) (n m e : ℕ) (b : Bool) (a : Answered) (s : State) → n ≡ little (field 0 4 body) → m ≡ little (field 4 4 body)
+    → b ≡ canLend (eqb (length body) 8) n m (length t) (length r) → b ≡ true → a .answer ≡ first (openTable (zeros (length (take m r))))
+    → a .ledger ≡ openedOf (zeros (length (take m r))) → p ≡ zeros (length (take n t)) → q ≡ rollAfterOpen (zeros (length (take m r))) → length q ≡ length (take m r)
+    → Wrote 47 (answerLine (ascii "open") (a .answer)) (pen x 0) (pen x′ e) → s ≡ goesOn (a .ledger) n m
+    → Plays (openTurn body t r) (p ++ drop n t) (q ++ drop m r) x x′ (record { state = s; end = e })
+unfolding openTurn openIf openOn
+open-plays body t r p q x x′ n m e b a s hn hm hb h ha hl hp hq hk w hs =
+    let i : length (take n t) ≡ n = length-take-le n t (lent-table _ n m _ _ hb h) in
+    let j : length (take m r) ≡ m = length-take-le m r (lent-roll _ n m _ _ hb h) in
+    let k : openIf n m body t r ≡ openTurn body t r = rw (hn, hm) in
+    let d : openOn n m t r ≡ openIf n m body t r = rw (sym hb ∙ h) in
+    let v : turn (goesOn (a .ledger) n m) (p ++ drop n t) (q ++ drop m r) (answerLine (ascii "open") (a .answer)) ≡ openOn n m t r = rw (ha, hl, hp, hq, i, j) in
+    plays-as (v ∙ d ∙ k) (plays-answer (omega arith) hs (still n p t (ap length hp ∙ zeros-length _ ∙ i)) (still m q r (hk ∙ j)) w)
+
+pub open-broken : (body t r x x′ : List ℕ) (n m : ℕ) (b : Bool) (a : Ran) → n ≡ little (field 0 4 body) → m ≡ little (field 4 4 body)
+    → b ≡ canLend (eqb (length body) 8) n m (length t) (length r) → b ≡ false → Plays (brokenTurn t r) t r x x′ a → Plays (openTurn body t r) t r x x′ a
+unfolding openTurn openIf
+open-broken body t r x x′ n m b a hn hm hb h p =
+    let k : openIf n m body t r ≡ openTurn body t r = rw (hn, hm) in
+    let d : brokenTurn t r ≡ openIf n m body t r = rw (sym hb ∙ h) in
+    plays-as (d ∙ k) p
+
+-- P
+pub plant-plays : (body t r p q x x′ : List ℕ) (n m e : ℕ) (b : Bool) (a : Answer) (l : Ledger) (s : State) → n ≡ little (field 988 4 body)
+    → m ≡ little (field 992 4 body) → b ≡ canLend (eqb (length body) (996 + n + m)) n m (length t) (length r) → b ≡ true
+    → p ≡ field 996 (length (take n t)) body → q ≡ field (996 + n) (length (take m r)) body → a ≡ accepted → l ≡ ledgerOf body
+    → Wrote 48 (answerLine (ascii "plant") a) (pen x 0) (pen x′ e) → s ≡ goesOn l n m
+    → Plays (plantTurn body t r) (p ++ drop n t) (q ++ drop m r) x x′ (record { state = s; end = e })
+unfolding plantTurn plantIf plantOn
+plant-plays body t r p q x x′ n m e b a l s hn hm hb h hp hq ha hl w hs =
+    let i : length (take n t) ≡ n = length-take-le n t (lent-table _ n m _ _ hb h) in
+    let j : length (take m r) ≡ m = length-take-le m r (lent-roll _ n m _ _ hb h) in
+    let k : plantIf n m body t r ≡ plantTurn body t r = rw (hn, hm) in
+    let d : plantOn n m body t r ≡ plantIf n m body t r = rw (sym hb ∙ h) in
+    let v : turn (goesOn l n m) (p ++ drop n t) (q ++ drop m r) (answerLine (ascii "plant") a) ≡ plantOn n m body t r = rw (ha, hl, hp, hq, i, j) in
+    plays-as (v ∙ d ∙ k) (plays-answer (omega arith) hs (still n p t (ap length hp ∙ field-length 996 _ body ∙ i)) (still m q r (ap length hq ∙ field-length (996 + n) _ body ∙ j)) w)
+
+pub plant-broken : (body t r x x′ : List ℕ) (n m : ℕ) (b : Bool) (a : Ran) → n ≡ little (field 988 4 body) → m ≡ little (field 992 4 body)
+    → b ≡ canLend (eqb (length body) (996 + n + m)) n m (length t) (length r) → b ≡ false → Plays (brokenTurn t r) t r x x′ a → Plays (plantTurn body t r) t r x x′ a
+unfolding plantTurn plantIf
+plant-broken body t r x x′ n m b a hn hm hb h p =
+    let k : plantIf n m body t r ≡ plantTurn body t r = rw (hn, hm) in
+    let d : brokenTurn t r ≡ plantIf n m body t r = rw (sym hb ∙ h) in
+    plays-as (d ∙ k) p
+
+-- C
+pub case-plays : (body t r p x x′ : List ℕ) (e : ℕ) (z : State) (a : Answered) (s : State) → Within z t r
+    → a ≡ judgedOf body (take (z .table) t) (take (z .roll) r) (z .ledger) → p ≡ tableAfter body (take (z .table) t) (take (z .roll) r) (z .ledger)
+    → length p ≡ length (take (z .table) t) → Wrote 47 (answerLine (ascii "case") (a .answer)) (pen x 0) (pen x′ e) → s ≡ goesOn (a .ledger) (z .table) (z .roll)
+    → Plays (caseTurn body t r z) (p ++ drop (z .table) t) r x x′ (record { state = s; end = e })
+unfolding caseTurn caseOn judgedOf
+case-plays body t r p x x′ e z a s h ha hp hk w hs =
+    let v : turn (goesOn (a .ledger) (z .table) (z .roll)) (p ++ drop (z .table) t) r (answerLine (ascii "case") (a .answer)) ≡ caseTurn body t r z = rw (ha, hp) in
+    plays-as v (plays-answer (omega arith) hs (still (z .table) p t (hk ∙ length-take-le (z .table) t (h .table))) (h .roll) w)
+
+-- B
+pub block-plays : (t r q x x′ : List ℕ) (e : ℕ) (z : State) (a : Answered) (s : State) → Within z t r
+    → a .answer ≡ first (closeTable (take (z .table) t) (take (z .roll) r) (z .ledger)) → a .ledger ≡ closedOf (take (z .table) t) (take (z .roll) r) (z .ledger)
+    → q ≡ rollAfterClose (take (z .table) t) (take (z .roll) r) (z .ledger) → length q ≡ length (take (z .roll) r)
+    → Wrote 48 (answerLine (ascii "block") (a .answer)) (pen x 0) (pen x′ e) → s ≡ goesOn (a .ledger) (z .table) (z .roll)
+    → Plays (blockTurn t r z) t (q ++ drop (z .roll) r) x x′ (record { state = s; end = e })
+unfolding blockTurn blockOn
+block-plays t r q x x′ e z a s h ha hl hq hk w hs =
+    let v : turn (goesOn (a .ledger) (z .table) (z .roll)) t (q ++ drop (z .roll) r) (answerLine (ascii "block") (a .answer)) ≡ blockTurn t r z = rw (ha, hl, hq) in
+    plays-as v (plays-answer (omega arith) hs (h .table) (still (z .roll) q r (hk ∙ length-take-le (z .roll) r (h .roll))) w)

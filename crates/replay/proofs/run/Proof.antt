@@ -1,0 +1,93 @@
+use native.Mathlib.Omega.{arith}
+use Rattle.replay.proofs.KindLaws.{entry-open, entry-plant, entry-case, entry-seal, entry-no-seal, entry-bare, entry-other}
+use Rattle.replay.proofs.TurnLaws.{plays-as, plays-text, plays-broken}
+use borrow.Author.Needs.{needs}
+use Rattle.replay.proofs.run.Statement.{statement}
+use Rattle.replay.proofs.run.Tie as tie
+
+returns : tie.Need-returns
+returns c =
+    let k = c .before .before .before .before .before .before in
+    let i = k .before .before .before .before in
+    plays-as (entry-open _ _ _ _ _ (i .if1 .taken)) (k .run-open .ensures)
+
+returns-2 : tie.Need-returns-2
+returns-2 c =
+    let k = c .before .before .before .before .before .before in
+    let i = k .before .before .before .before in
+    plays-as (entry-plant _ _ _ _ _ (i .if2 .taken)) (k .run-plant .ensures)
+
+returns-3 : tie.Need-returns-3
+returns-3 c =
+    let k = c .before .before .before .before in
+    let i = k .before .before .before .before in
+    plays-as (entry-case _ _ _ _ _ (i .if3 .taken)) (k .run-case .ensures)
+
+returns-4 : tie.Need-returns-4
+returns-4 c =
+    let k = c .before .before in
+    let l = k .before .before in
+    let i = l .before in
+    let s = i .before .before .before .before .before .before .before .before in
+    plays-as (entry-seal _ _ _ _ _ (i .if4 .taken) (l .if5 .taken)) (plays-text (omega arith) (s .pre) (k .put-seal .ensures))
+
+returns-5 : tie.Need-returns-5
+returns-5 c =
+    let k = c .before .before in
+    let l = k .before .before in
+    let i = l .before in
+    plays-as (entry-no-seal _ _ _ _ _ (i .if4 .taken) (l .if5 .left)) (plays-broken (k .broken .ensures .0) (k .broken .ensures .1))
+
+returns-6 : tie.Need-returns-6
+returns-6 c =
+    let k = c .before .before .before .before in
+    let l = k .before .before .before .before in
+    let d = l .before in
+    let e = d .before in
+    let g = e .before in
+    let h = g .before in
+    plays-as (entry-bare _ _ _ _ _ (h .if1 .left) (g .if2 .left) (e .if3 .left) (d .if4 .left) (l .if6 .taken)) (k .run-bare .ensures)
+
+returns-7 : tie.Need-returns-7
+returns-7 c =
+    let k = c .before .before in
+    let l = k .before .before in
+    let d = l .before in
+    let e = d .before in
+    let g = e .before in
+    let h = g .before in
+    plays-as (entry-other _ _ _ _ _ (h .if1 .left) (g .if2 .left) (e .if3 .left) (d .if4 .left) (l .if6 .left)) (plays-broken (k .broken2 .ensures .0) (k .broken2 .ensures .1))
+
+pub run-spec : {M : Type 1} → statement M
+run-spec =
+    tie.close
+    (tie.spec
+    (λ c κs. search needs)
+    (λ c. search needs)
+    (λ c. search needs)
+    (λ c. search needs)
+    returns
+    (λ c κs. search needs)
+    (λ c. search needs)
+    (λ c. search needs)
+    (λ c. search needs)
+    returns-2
+    (λ c κs. search needs)
+    (λ c. search needs)
+    (λ c. search needs)
+    (λ c. search needs)
+    returns-3
+    (λ c κs. search needs)
+    (λ c. search needs)
+    returns-4
+    (λ c κs. search needs)
+    (λ c. search needs)
+    returns-5
+    (λ c κs. search needs)
+    (λ c. search needs)
+    (λ c. search needs)
+    (λ c. search needs)
+    returns-6
+    (λ c κs. search needs)
+    (λ c. search needs)
+    returns-7)

@@ -1,0 +1,30 @@
+use Rattle.replay.proofs.KindLaws.{bare-block, bare-other}
+use Rattle.replay.proofs.TurnLaws.{plays-as}
+use borrow.Author.Needs.{needs}
+use Rattle.replay.proofs.run_bare.Statement.{statement}
+use Rattle.replay.proofs.run_bare.Tie as tie
+
+returns : tie.Need-returns
+returns c =
+    let k = c .before .before .before .before in
+    let i = k .before .before .before in
+    plays-as (bare-block _ _ _ _ (i .if1 .taken)) (k .run-block .ensures)
+
+returns-2 : tie.Need-returns-2
+returns-2 c =
+    let k = c .before .before in
+    let i = k .before .before .before in
+    plays-as (bare-other _ _ _ _ (i .if1 .left)) (k .run-look .ensures)
+
+pub run-bare-spec : {M : Type 1} → statement M
+run-bare-spec =
+    tie.close
+    (tie.spec
+    (λ c κs. search needs)
+    (λ c. search needs)
+    (λ c. search needs)
+    returns
+    (λ c κs. search needs)
+    (λ c. search needs)
+    (λ c. search needs)
+    returns-2)

@@ -76,11 +76,11 @@ pub fn close(table: &[u8], roll: &mut [u8], ledger: Ledger) -> Answered
     let record = ledger.tree;
     let root = record.root();
     octets::copy_in(roll, a * 32, &root);
-    let mut next = ledger;
-    next.anchors = a + 1;
+    let mut closed = ledger;
+    closed.anchors = a + 1;
     Answered {
         answer: Answer::accepted(),
-        ledger: next,
+        ledger: closed,
     }
 }
 

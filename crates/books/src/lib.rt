@@ -90,7 +90,7 @@ pub struct DayRow {
 pub fn enter(list: &mut [DayRow], at: Row, row: DayRow) -> bool
     ensures { λ r. ⌜ (r ≡ isOn (at .0) (now (list .entry))) × (now (list .exit) ≡ entered (at .0) row (now (list .entry))) ⌝ }
 {
-    let i = at.0;
+    let i = at.index();
     if i < list.len() {
         list[i] = row;
         return true;
@@ -111,7 +111,7 @@ pub fn enter_apart(
     ensures { λ _. ⌜ columns (now (seals .exit)) (now (answers .exit)) (now (places .exit))
         ≡ enteredApart (at .0) row (columns (now (seals .entry)) (now (answers .entry)) (now (places .entry))) ⌝ }
 {
-    let i = at.0;
+    let i = at.index();
     if seals.len() <= i {
         return false;
     }

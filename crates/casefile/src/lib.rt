@@ -31,13 +31,13 @@ pub fn has_length(case: &[u8]) -> bool
 pub fn vpub_old(case: &[u8]) -> Amount
     ensures { λ r. ⌜ r .0 ≡ vpubOldOf (now (case .entry)) ⌝ }
 {
-    Amount(octets::le64(case, 0))
+    Amount::of(octets::le64(case, 0))
 }
 
 pub fn vpub_new(case: &[u8]) -> Amount
     ensures { λ r. ⌜ r .0 ≡ vpubNewOf (now (case .entry)) ⌝ }
 {
-    Amount(octets::le64(case, 8))
+    Amount::of(octets::le64(case, 8))
 }
 
 pub fn anchor(case: &[u8]) -> [u8; 32]
@@ -91,7 +91,7 @@ pub fn old_address(case: &[u8], i: Which) -> [u8; 32]
 pub fn old_value(case: &[u8], i: Which) -> Amount
     ensures { λ r. ⌜ r .0 ≡ oldValueOf (numberOf i) (now (case .entry)) ⌝ }
 {
-    Amount(octets::le64(case, spot(i, 1898, 1068)))
+    Amount::of(octets::le64(case, spot(i, 1898, 1068)))
 }
 
 pub fn old_rho(case: &[u8], i: Which) -> [u8; 32]
@@ -109,7 +109,7 @@ pub fn old_trapdoor(case: &[u8], i: Which) -> [u8; 32]
 pub fn old_position(case: &[u8], i: Which) -> Position
     ensures { λ r. ⌜ r .0 ≡ oldPositionOf (numberOf i) (now (case .entry)) ⌝ }
 {
-    Position(octets::le32(case, spot(i, 1970, 1068)))
+    Position::of(octets::le32(case, spot(i, 1970, 1068)))
 }
 
 // The path's rows, leaf level first, as a part of the file: nothing is copied.
@@ -137,7 +137,7 @@ pub fn new_address(case: &[u8], i: Which) -> [u8; 32]
 pub fn new_value(case: &[u8], i: Which) -> Amount
     ensures { λ r. ⌜ r .0 ≡ newValueOf (numberOf i) (now (case .entry)) ⌝ }
 {
-    Amount(octets::le64(case, spot(i, 4002, 104)))
+    Amount::of(octets::le64(case, spot(i, 4002, 104)))
 }
 
 pub fn new_rho(case: &[u8], i: Which) -> [u8; 32]

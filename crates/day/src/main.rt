@@ -42,7 +42,7 @@ fn enter_in_place(list: [DayRow; 4], at: Row, row: DayRow) -> Page
 
 fn entry_at(at: usize, seal: u32, answer: u8, place: u8) -> Entry {
     Entry {
-        at: Row(at),
+        at: Row::of(at),
         row: DayRow {
             seal,
             answer,
@@ -150,7 +150,7 @@ fn day_in_place() {
         let row = e.row;
         let page = enter_in_place(rows, at, row);
         rows = page.rows;
-        print_entry(at.0, page.ok);
+        print_entry(at.index(), page.ok);
         let c = count_in_place(t, row.answer == 0);
         t = c.tally;
         print_count(c);
@@ -169,7 +169,7 @@ fn day_apart() {
         let at = e.at;
         let row = e.row;
         let ok = books::enter_apart(&mut seals, &mut answers, &mut places, at, row);
-        print_entry(at.0, ok);
+        print_entry(at.index(), ok);
         let c = books::counted(t, row.answer == 0);
         t = c.tally;
         print_count(c);
@@ -190,11 +190,11 @@ fn day_uneven() {
     };
     print_entry(
         3,
-        books::enter_apart(&mut seals, &mut answers, &mut places, Row(3), row),
+        books::enter_apart(&mut seals, &mut answers, &mut places, Row::of(3), row),
     );
     print_entry(
         2,
-        books::enter_apart(&mut seals, &mut answers, &mut places, Row(2), row),
+        books::enter_apart(&mut seals, &mut answers, &mut places, Row::of(2), row),
     );
     print_row(seals[2], answers[2], places[2]);
     print_row(seals[3], 0, places[3]);

@@ -7,6 +7,7 @@ mod entering;
 mod money;
 mod order;
 mod roll;
+mod rows;
 mod table;
 
 ghost use mathlib.Core.Path.{_≡_};
@@ -21,7 +22,9 @@ use ledger::Answered;
 use ledger::Ledger;
 use ledger::Pool;
 use refusals::Answer;
+use rows::start_of;
 use tree::Tree;
+use units::Row;
 use units::Which;
 
 // A ledger with no nullifier and no leaf, and so many anchors.
@@ -49,7 +52,7 @@ pub fn open(roll: &mut [u8]) -> Answered
         };
     }
     let root = nodes::empty_root(29);
-    octets::copy_in(roll, 0, &root);
+    octets::copy_in(roll, start_of(Row::of(0)), &root);
     Answered {
         answer: Answer::accepted(),
         ledger: start(1),
@@ -75,7 +78,7 @@ pub fn close(table: &[u8], roll: &mut [u8], ledger: Ledger) -> Answered
     }
     let record = ledger.tree;
     let root = record.root();
-    octets::copy_in(roll, a * 32, &root);
+    octets::copy_in(roll, start_of(Row::of(a)), &root);
     let mut closed = ledger;
     closed.anchors = a + 1;
     Answered {

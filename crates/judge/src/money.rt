@@ -29,5 +29,5 @@ pub fn moved(pool: Pool, old: Amount, new: Amount) -> Pool
     ensures { λ r. ⌜ r .0 ≡ pool .0 +ℤ pos (old .0) -ℤ pos (new .0) ⌝ }
 {
     let p = pool.0;
-    Pool(minus(plus(p, old.0), new.0))
+    Pool(minus(plus(p, old.zatoshi()), new.zatoshi()))
 }

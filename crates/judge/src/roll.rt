@@ -1,6 +1,9 @@
 // The anchor roll: rows of 32 bytes in lent memory, of which the first count are used, in the order in
-// which they were written. How one row stands to another is left to order.rt.
+// which they were written. How one row stands to another is left to order.rt, where a row starts to
+// rows.rt.
 use crate::order::compare_words;
+use crate::rows::start_of;
+use units::Row;
 ghost use mathlib.Core.Path.{_≡_};
 ghost use Prim.Native.Nat.{_*_, _≤_};
 ghost use lib.ListN.{length};
@@ -12,12 +15,12 @@ pub fn stands_on(roll: &[u8], count: usize, row: &[u8; 32]) -> bool
     requires { ⌜ count * 32 ≤ length (now roll) ⌝ }
     ensures { λ r. ⌜ r ≡ among (now (row .entry)) (rowsOf count (now (roll .entry))) ⌝ }
 {
-    let mut i = 0;
-    while i < count {
-        if compare_words(row, 0, roll, i * 32).is_equal() {
+    let mut i = Row::of(0);
+    while i.is_within(count) {
+        if compare_words(row, 0, roll, start_of(i)).is_equal() {
             return true;
         }
-        i += 1;
+        i = i.next();
     }
     false
 }

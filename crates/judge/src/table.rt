@@ -1,8 +1,9 @@
 // The nullifier table: rows of 32 bytes in lent memory, of which the first count are used and strictly
-// rise in byte order. How one row stands to another is left to order.rt, and whether a table is as it
-// has to be, to the caller.
+// rise in byte order. How one row stands to another is left to order.rt, where a row starts to rows.rt,
+// and whether a table is as it has to be, to the caller.
 use crate::order::compare;
 use crate::order::is_below;
+use crate::rows::start_of;
 use ledger::Found;
 use ledger::Order;
 use units::Row;
@@ -19,13 +20,15 @@ pub fn is_rising(table: &[u8], count: usize) -> bool
     requires { ⌜ count * 32 ≤ length (now table) ⌝ }
     ensures { λ r. ⌜ r ≡ rising byteOrder (rowsOf count (now (table .entry))) ⌝ }
 {
-    let mut i = 0;
-    while i + 1 < count {
-        let rises = is_below(table, i * 32, table, (i + 1) * 32);
+    let mut low = Row::of(0);
+    let mut high = low.next();
+    while high.is_within(count) {
+        let rises = is_below(table, start_of(low), table, start_of(high));
         if !rises {
             return false;
         }
-        i += 1;
+        low = high;
+        high = low.next();
     }
     true
 }
@@ -37,42 +40,43 @@ pub fn search(table: &[u8], count: usize, row: &[u8; 32]) -> Found
     requires { ⌜ rising byteOrder (rowsOf count (now table)) ≡ true ⌝ }
     ensures { λ r. ⌜ r ≡ find byteOrder (now (row .entry)) (rowsOf count (now (table .entry))) ⌝ }
 {
-    let mut i = 0;
-    while i < count {
-        let o = compare(row, 0, table, i * 32);
+    let mut i = Row::of(0);
+    while i.is_within(count) {
+        let o = compare(row, 0, table, start_of(i));
         match o {
             Order::Less => {
-                return Found::Gap(Row(i));
+                return Found::Gap(i);
             }
             Order::Equal => {
-                return Found::At(Row(i));
+                return Found::At(i);
             }
             Order::Greater => {
-                i += 1;
+                i = i.next();
             }
         }
     }
-    Found::Gap(Row(i))
+    Found::Gap(i)
 }
 
 // The row that a search answers, whichever way it does.
-fn place(found: Found) -> usize
-    ensures { λ r. ⌜ r ≡ placeOf found ⌝ }
+fn place(found: Found) -> Row
+    ensures { λ r. ⌜ r .0 ≡ placeOf found ⌝ }
 {
     match found {
-        Found::At(r) => r.0,
-        Found::Gap(r) => r.0,
+        Found::At(r) => r,
+        Found::Gap(r) => r,
     }
 }
 
-// The bytes from index from up to to, moved up by one row. Downwards, so that none is overwritten
-// before it is moved.
-fn shift(table: &mut [u8], from: usize, to: usize)
-    requires { ⌜ (from ≤ to) × (to + 32 ≤ length (now table)) ⌝ }
-    ensures { λ _. ⌜ now (table .exit) ≡ shifted (now (table .entry)) from to ⌝ }
+// Row from and those after it, short of row to, moved up by one row. The loop counts their bytes;
+// downwards, so that none is overwritten before it is moved.
+fn shift(table: &mut [u8], from: Row, to: Row)
+    requires { ⌜ (from .0 ≤ to .0) × ((to .0 + 1) * 32 ≤ length (now table)) ⌝ }
+    ensures { λ _. ⌜ now (table .exit) ≡ shifted (now (table .entry)) (from .0 * 32) (to .0 * 32) ⌝ }
 {
-    let mut i = to;
-    while from < i {
+    let low = start_of(from);
+    let mut i = start_of(to);
+    while low < i {
         i -= 1;
         let b = table[i];
         table[i + 32] = b;
@@ -88,9 +92,9 @@ fn enter_one(table: &mut [u8], count: usize, row: &[u8; 32])
     ensures { λ _. ⌜ length (now (row .entry)) ≡ 32 ⌝ }
     ensures { λ _. ⌜ now (table .exit) ≡ withRow count (now (table .entry)) (now (row .entry)) ⌝ }
 {
-    let at = place(search(&*table, count, row)) * 32;
-    shift(&mut *table, at, count * 32);
-    octets::copy_in(table, at, row);
+    let at = place(search(&*table, count, row));
+    shift(&mut *table, at, Row::of(count));
+    octets::copy_in(table, start_of(at), row);
 }
 
 // Two rows that differ and stand nowhere yet, put in where they go; behind them nothing moves. For `enter`

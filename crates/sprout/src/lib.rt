@@ -86,7 +86,7 @@ fn note_bytes(address: &[u8; 32], value: Amount, rho: &[u8; 32], r: &[u8; 32]) -
 {
     let mut m = [0u8; 105];
     m[0] = 0xb0;
-    let v = octets::le_bytes64(value.0);
+    let v = octets::le_bytes64(value.zatoshi());
     octets::copy_in(&mut m, 1, address);
     octets::copy_in(&mut m, 33, &v);
     octets::copy_in(&mut m, 41, rho);

@@ -141,8 +141,8 @@ struct Total {
 fn sum(a: Amount, b: Amount, c: Amount) -> Total
     ensures { λ r. ⌜ (r .high * 2 ^ 32 + r .low ≡ a .0 + b .0 + c .0) × (r .low < 2 ^ 32) ⌝ }
 {
-    let high = a.0 / 4294967296 + b.0 / 4294967296 + c.0 / 4294967296;
-    let low = a.0 % 4294967296 + b.0 % 4294967296 + c.0 % 4294967296;
+    let high = a.high() + b.high() + c.high();
+    let low = a.low() + b.low() + c.low();
     Total {
         high: high + low / 4294967296,
         low: low % 4294967296,

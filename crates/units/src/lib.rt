@@ -1,20 +1,21 @@
 // Numbers of three kinds that must never be mixed: an amount of money, a leaf's position in the
-// tree, a row of a table. Each is a type of its own, so that none can be added to another. And
-// which of a pair is meant. What is done with them is left to the crates above.
+// tree, a row of a table. Each is a type of its own with a private number, so that none can be taken for
+// another, nor counted with but by the methods here. And which of a pair is meant. What is done with them
+// is left to the crates above.
 ghost use mathlib.Core.Path.{_≡_};
-ghost use Prim.Native.Nat.{_/_, _%_};
+ghost use Prim.Native.Nat.{_+_, _-_, _/_, _%_, _^_, min};
 ghost use lib.Dec.{eqb, leb, ltb};
 ghost use Rattle.units.specs.Limits.{maxMoney, treeLeaves};
 ghost use Rattle.units.specs.Pairs.{numberOf};
 
 // An amount in zatoshi.
-pub struct Amount(pub u64);
+pub struct Amount(u64);
 
 // The number of a leaf of the commitment tree, or of a node of one of its levels.
-pub struct Position(pub u32);
+pub struct Position(u32);
 
 // A row of a table, counted from 0.
-pub struct Row(pub usize);
+pub struct Row(usize);
 
 // Which of a pair: of the old notes, the new notes, the nullifiers, the commitments.
 pub enum Which {
@@ -34,6 +35,32 @@ impl Which {
 }
 
 impl Amount {
+    pub fn of(zatoshi: u64) -> Amount
+        ensures { λ r. ⌜ r .0 ≡ zatoshi ⌝ }
+    {
+        Amount(zatoshi)
+    }
+
+    // The number alone, for whoever writes it down or moves the pool by it.
+    pub fn zatoshi(self) -> u64
+        ensures { λ r. ⌜ r ≡ self .0 ⌝ }
+    {
+        self.0
+    }
+
+    // Its upper and its lower 32 bits: a few halves can be added with nothing lost.
+    pub fn high(self) -> u64
+        ensures { λ r. ⌜ r ≡ self .0 / 2 ^ 32 ⌝ }
+    {
+        self.0 / 4294967296
+    }
+
+    pub fn low(self) -> u64
+        ensures { λ r. ⌜ r ≡ self .0 % 2 ^ 32 ⌝ }
+    {
+        self.0 % 4294967296
+    }
+
     pub fn is_zero(self) -> bool
         ensures { λ r. ⌜ r ≡ eqb (self .0) 0 ⌝ }
     {
@@ -49,6 +76,12 @@ impl Amount {
 }
 
 impl Position {
+    pub fn of(number: u32) -> Position
+        ensures { λ r. ⌜ r .0 ≡ number ⌝ }
+    {
+        Position(number)
+    }
+
     // Whether the tree has such a leaf.
     pub fn is_leaf(self) -> bool
         ensures { λ r. ⌜ r ≡ ltb (self .0) treeLeaves ⌝ }
@@ -68,5 +101,38 @@ impl Position {
         ensures { λ r. ⌜ r .0 ≡ self .0 / 2 ⌝ }
     {
         Position(self.0 / 2)
+    }
+}
+
+impl Row {
+    pub fn of(index: usize) -> Row
+        ensures { λ r. ⌜ r .0 ≡ index ⌝ }
+    {
+        Row(index)
+    }
+
+    // The number alone, for whoever indexes a list by it or prints it.
+    pub fn index(self) -> usize
+        ensures { λ r. ⌜ r ≡ self .0 ⌝ }
+    {
+        self.0
+    }
+
+    // Whether it is one of the first count rows.
+    pub fn is_within(self, count: usize) -> bool
+        ensures { λ r. ⌜ r ≡ ltb (self .0) count ⌝ }
+    {
+        self.0 < count
+    }
+
+    // The row after it. The last row that has a number has none after it, and is answered itself.
+    pub fn next(self) -> Row
+        ensures { λ r. ⌜ r .0 ≡ min (self .0 + 1) (2 ^ 64 - 1) ⌝ }
+    {
+        if self.0 < 18446744073709551615 {
+            Row(self.0 + 1)
+        } else {
+            self
+        }
     }
 }

@@ -14,12 +14,13 @@ returns-3 : tie.Need-returns-3
 returns-3 c = apart-past _ _ _ _ _ (omega arith)
 
 returns-4 : tie.Need-returns-4
-returns-4 c = apart-on _ _ _ _ _ (omega arith)
+returns-4 c = rw (c .before .before .before .index .ensures) (apart-on _ _ _ _ _ (omega arith))
 
 pub enter-apart-spec : {M : Type 1} → statement M
 enter-apart-spec =
     tie.close
     (tie.spec
+    (λ c κs. search needs)
     returns
     returns-2
     returns-3

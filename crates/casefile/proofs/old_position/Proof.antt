@@ -10,8 +10,9 @@ use Rattle.casefile.proofs.old_position.Tie as tie
 returns : tie.Need-returns
 unfolding oldPositionOf description oldNote newNote lengths total offset proofLength partOf
 returns c =
-    let a = c .before .before .before .args in
-    c .le32 .ensures ∙ ap little (paired (λ i. partOf (ofOld i 5) (a .case .now)) 1970 1068 4 (a .case .now) refl refl (a .i) _ (c .before .spot .ensures))
+    let n = c .before in
+    let a = n .before .before .before .args in
+    c .of .ensures ∙ n .le32 .ensures ∙ ap little (paired (λ i. partOf (ofOld i 5) (a .case .now)) 1970 1068 4 (a .case .now) refl refl (a .i) _ (n .before .spot .ensures))
 
 pub old-position-spec : {M : Type 1} → statement M
-old-position-spec = tie.close (tie.spec (λ c κs. search needs) (λ c κs. search needs) returns)
+old-position-spec = tie.close (tie.spec (λ c κs. search needs) (λ c κs. search needs) (λ c κs. search needs) returns)

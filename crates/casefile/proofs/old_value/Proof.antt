@@ -10,8 +10,9 @@ use Rattle.casefile.proofs.old_value.Tie as tie
 returns : tie.Need-returns
 unfolding oldValueOf description oldNote newNote lengths total offset proofLength partOf
 returns c =
-    let a = c .before .before .before .args in
-    c .le64 .ensures ∙ ap little (paired (λ i. partOf (ofOld i 2) (a .case .now)) 1898 1068 8 (a .case .now) refl refl (a .i) _ (c .before .spot .ensures))
+    let n = c .before in
+    let a = n .before .before .before .args in
+    c .of .ensures ∙ n .le64 .ensures ∙ ap little (paired (λ i. partOf (ofOld i 2) (a .case .now)) 1898 1068 8 (a .case .now) refl refl (a .i) _ (n .before .spot .ensures))
 
 pub old-value-spec : {M : Type 1} → statement M
-old-value-spec = tie.close (tie.spec (λ c κs. search needs) (λ c κs. search needs) returns)
+old-value-spec = tie.close (tie.spec (λ c κs. search needs) (λ c κs. search needs) (λ c κs. search needs) returns)

@@ -1,3 +1,4 @@
+use mathlib.Core.Path.{_∙_}
 use Rattle.casefile.specs.Layout.{description, oldNote, newNote, lengths, total, offset, proofLength, partOf}
 use Rattle.casefile.specs.Fields.{vpubNewOf}
 use borrow.Author.Needs.{needs}
@@ -6,7 +7,7 @@ use Rattle.casefile.proofs.vpub_new.Tie as tie
 
 returns : tie.Need-returns
 unfolding vpubNewOf description oldNote newNote lengths total offset proofLength partOf
-returns c = c .le64 .ensures
+returns c = c .of .ensures ∙ c .before .le64 .ensures
 
 pub vpub-new-spec : {M : Type 1} → statement M
-vpub-new-spec = tie.close (tie.spec (λ c κs. search needs) returns)
+vpub-new-spec = tie.close (tie.spec (λ c κs. search needs) (λ c κs. search needs) returns)

@@ -1,13 +1,12 @@
-use mathlib.Core.Path.{_≡_, refl, sym, ap, _∙_}
+use mathlib.Core.Path.{_≡_, refl, sym, ap, ap₂, _∙_}
 use Prim.Native.Nat.{ℕ, _+_, _*_, _≤_, _<_}
-use mathlib.Core.Bool.{true, false}
 use mathlib.Core.List.{List, [], _∷_}
 use native.Mathlib.Omega.{arith}
 use borrow.Author.Tests.{not-true, le-leb, lt-leb}
 use lib.Dec.{leb}
 use lib.ListN.{length}
 use Rattle.octets.specs.Parts.{pasted}
-use Rattle.refusals.specs.Table.{Row, row, first, rowsIn, numbered, isAccepted}
+use Rattle.refusals.specs.Table.{Row, row, first, numbered, isAccepted}
 use Rattle.refusals.proofs.TableLaws.{stops, goes-on, last-group, one-holds, one-fails}
 use Rattle.ledger.specs.Ledgers.{mostAnchors, roomIn, no2, closeTable}
 use Rattle.ledger.proofs.Soundness.{at-most}
@@ -47,24 +46,31 @@ returns-2 c =
     let no = close-refused (a .table .now) (a .roll .now) (a .ledger) (ap isAccepted (rest p ∙ sym (one-holds _ 3 0 (le-leb (roomIn mostAnchors (length (a .roll .now))) (a .ledger .anchors) h)))) in
     (all, (no .0, no .1))
 
-mul-copy-in : tie.Need-mul-copy-in
-mul-copy-in c =
-    let p = c .before .before .before .before .before in
-    let a = p .before .before .before .before .before .before .args in
+-- there is room for one anchor more
+roomy : (c : tie.Else2) → c .before .before .before .before .before .before .before .before .args .ledger .anchors + 1 ≤ 1024
+roomy c =
+    let a = c .before .before .before .before .before .before .before .before .args in
     let h : a .ledger .anchors + 1 ≤ roomIn mostAnchors (length (a .roll .now)) = omega arith in
-    let k : a .ledger .anchors + 1 ≤ 1024 = at-most (a .ledger .anchors + 1) mostAnchors (length (a .roll .now)) h in
-    record { fits = omega arith }
+    at-most (a .ledger .anchors + 1) mostAnchors (length (a .roll .now)) h
+
+start-of-requires : tie.Need-start-of-requires
+start-of-requires c κs = omega (arith, roomy (c .before .before .before .before))
+
+add-closed : tie.Need-add-closed
+add-closed c = record { fits = omega (arith, roomy (c .before .before .before .before .before .before .before .before .before)) }
 
 returns-3 : tie.Need-returns-3
 returns-3 c =
     let i = c .before .before .before in
-    let g = i .before .before .before in
+    let at = i .before .before in
+    let g = at .before .before .before in
     let p = g .before .before .before .before in
+    let next-row = at .start-of .ensures ∙ ap (λ (k : ℕ). k * 32) (at .before .of .ensures) in
     let a = p .before .before .before .before .before .before .args in
     let h : a .ledger .anchors < roomIn mostAnchors (length (a .roll .now)) = omega arith in
     let passed = one-fails _ 3 0 (lt-leb (roomIn mostAnchors (length (a .roll .now))) (a .ledger .anchors) h) ∙ sym (rest p) in
     let yes = close-passed (a .table .now) (a .roll .now) (a .ledger) (ap isAccepted (sym passed)) in
-    (c .accepted .ensures ∙ passed, (yes .0, i .copy-in .ensures .1 ∙ ap (λ (x : List ℕ). pasted (a .ledger .anchors * 32) x (a .roll .now)) (g .root .ensures) ∙ yes .1))
+    (c .accepted .ensures ∙ passed, (yes .0, i .copy-in .ensures .1 ∙ ap₂ (λ (k : ℕ) (x : List ℕ). pasted k x (a .roll .now)) next-row (g .root .ensures) ∙ yes .1))
 
 pub close-spec : {M : Type 1} → statement M
 close-spec =
@@ -79,10 +85,11 @@ close-spec =
     (λ c. search needs)
     returns-2
     (λ c κs. search needs)
-    mul-copy-in
+    (λ c κs. search needs)
+    start-of-requires
     (λ c. search needs)
     (λ c κs. search needs)
-    (λ c. search needs)
+    add-closed
     (λ c κs. search needs)
     (λ c. search needs)
     returns-3)

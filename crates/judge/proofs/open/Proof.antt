@@ -1,6 +1,6 @@
-use mathlib.Core.Path.{_≡_, refl, sym, ap, _∙_}
-use Prim.Native.Nat.{ℕ}
-use mathlib.Core.List.{List, []}
+use mathlib.Core.Path.{_≡_, sym, ap, ap₂, _∙_}
+use Prim.Native.Nat.{ℕ, _*_}
+use mathlib.Core.List.{List}
 use native.Mathlib.Omega.{arith}
 use borrow.Author.Tests.{eq-eqb, ne-eqb}
 use lib.ListN.{length}
@@ -31,12 +31,14 @@ unfolding openTable treeRoot emptyRoot
 returns-2 c =
     let ok = c .before in
     let i = ok .before .before .before in
-    let g = i .before .before .before in
+    let at = i .before .before in
+    let g = at .before .before .before in
     let e = g .before in
+    let first-row = at .start-of .ensures ∙ ap (λ (k : ℕ). k * 32) (at .before .of .ensures) in
     let r = e .before .before .before .args .roll .now in
     let all = one-fails _ 1 0 (ne-eqb (roomIn mostAnchors (length r)) 0 (λ z. e .if1 .left (e .before .room-in .ensures ∙ z))) in
     let yes = open-passed r (ap isAccepted (sym all)) in
-    (ok .accepted .ensures ∙ all, (c .start2 .ensures ∙ yes .0, i .copy-in .ensures .1 ∙ ap (λ (x : List ℕ). pasted 0 x r) (g .empty-root .ensures ∙ sym (root-empty parentOf emptyLeaf 29)) ∙ yes .1))
+    (ok .accepted .ensures ∙ all, (c .start2 .ensures ∙ yes .0, i .copy-in .ensures .1 ∙ ap₂ (λ (k : ℕ) (x : List ℕ). pasted k x r) first-row (g .empty-root .ensures ∙ sym (root-empty parentOf emptyLeaf 29)) ∙ yes .1))
 
 pub open-spec : {M : Type 1} → statement M
 open-spec =
@@ -46,6 +48,8 @@ open-spec =
     (λ c κs. search needs)
     (λ c κs. search needs)
     returns
+    (λ c κs. search needs)
+    (λ c κs. search needs)
     (λ c κs. search needs)
     (λ c. search needs)
     (λ c κs. search needs)

@@ -7,7 +7,7 @@ use mathlib.Core.List.{List, [], _∷_, _++_, append-assoc}
 use native.Mathlib.Numerals.{add-one}
 use native.Mathlib.Omega.{arith}
 use lib.ListN.{length, getD, take, drop, set, take-append-drop, drop-of-length-le, length-append, List·getD-append}
-use lib.Seq.{drop-cons, drop-drop, take-suc, take-add, take-take, take-append-le, drop-at, length-take-le, set-at, getD-take, append-snoc}
+use lib.Seq.{drop-cons, drop-drop, take-suc, take-take, take-append-le, drop-at, length-take-le, set-at, getD-take, append-snoc}
 use Rattle.octets.specs.Parts.{pasted}
 use Rattle.octets.specs.Rows.{rowsOf, flat}
 use Rattle.octets.proofs.PartLaws.{pasted-is}

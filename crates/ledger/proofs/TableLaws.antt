@@ -1,12 +1,12 @@
 -- A table after rows were put in: its rows, its length, the bytes past them, and that two pairs may go in in either order.
 -- Assumes nothing.
-use Prim.Native.Nat.{ℕ, zero, suc, _+_, _-_, _*_, _≤_}
+use Prim.Native.Nat.{ℕ, _+_, _-_, _*_, _≤_}
 use mathlib.Core.Path.{_≡_, refl, sym, ap, _∙_}
 use mathlib.Core.Bool.{true, false}
-use mathlib.Core.List.{List, [], _∷_, _++_, append-assoc}
+use mathlib.Core.List.{List, [], _∷_, _++_}
 use native.Mathlib.Omega.{arith}
 use lib.ListN.{length, drop, length-append, length-drop}
-use lib.Seq.{take-at, drop-at, drop-drop, drop-append-add, length-take-le}
+use lib.Seq.{drop-drop, drop-append-add}
 use Rattle.octets.specs.Parts.{same}
 use Rattle.octets.specs.Rows.{rowsOf, flat, Long}
 use Rattle.octets.proofs.RowLaws.{rows-length, rows-long, rows-flat-on, flat-length}

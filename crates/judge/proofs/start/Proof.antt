@@ -1,6 +1,6 @@
 use lib.IntN.{pos}
 use Rattle.tree.specs.declared.Tree.{Tree}
-use mathlib.Core.Path.{_≡_, ap}
+use mathlib.Core.Path.{ap}
 use Rattle.ledger.specs.Ledgers.{startOf}
 use borrow.Author.Needs.{needs}
 use Rattle.judge.proofs.start.Statement.{statement}

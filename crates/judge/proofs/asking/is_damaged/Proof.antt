@@ -1,13 +1,11 @@
 use mathlib.Core.Path.{_≡_, sym, ap, _∙_}
-use Prim.Native.Nat.{ℕ, _*_, _/_, _%_, _≤_, _<_}
+use Prim.Native.Nat.{_*_, _/_, _%_, _≤_, _<_}
 use mathlib.Core.Bool.{true, false, not, or-false}
 use lib.Dec.{eqb, ltb}
 use lib.IntN.{natAbs}
 use lib.ListN.{length}
 use native.Mathlib.Omega.{arith}
 use borrow.Author.Tests.{eq-eqb, ne-eqb, lt-ltb, le-ltb}
-use Rattle.ledger.specs.Sorted.{rising}
-use Rattle.ledger.specs.Rows.{byteOrder}
 use Rattle.units.specs.Limits.{maxMoney}
 use Rattle.ledger.specs.Ledgers.{mostNullifiers, mostAnchors, roomIn, spentRows, some, damage, damaged}
 use Rattle.ledger.proofs.Soundness.{some-at, within, at-most}

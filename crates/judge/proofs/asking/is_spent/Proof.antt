@@ -1,7 +1,6 @@
 use mathlib.Core.Path.{_≡_, sym, ap, _∙_}
-use mathlib.Core.Bool.{Bool, true, false, not}
+use mathlib.Core.Bool.{true, false, not}
 use Rattle.octets.specs.Rows.{rowsOf}
-use Rattle.ledger.specs.declared.Found.{Found}
 use Rattle.ledger.specs.Sorted.{isGap, find}
 use Rattle.ledger.specs.Rows.{byteOrder}
 use Rattle.ledger.specs.Ledgers.{spentRows}

@@ -1,6 +1,5 @@
 use native.Mathlib.Omega.{arith}
 use Rattle.ledger.specs.Ledgers.{roomIn}
-use borrow.Author.Needs.{needs}
 use Rattle.judge.proofs.asking.room_in.Statement.{statement}
 use Rattle.judge.proofs.asking.room_in.Tie as tie
 

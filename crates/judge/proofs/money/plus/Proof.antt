@@ -1,10 +1,9 @@
-use Prim.Native.Nat.{ℕ, _+_, _<_, _^_}
-use mathlib.Core.Path.{_≡_, refl, sym, ap, _∙_, subst}
+use Prim.Native.Nat.{_+_, _<_, _^_}
 use native.Mathlib.Omega.{arith}
-use lib.IntN.{pos, natAbs, _+ℤ_, _-ℤ_}
+use lib.IntN.{pos, _+ℤ_}
 use mir.Syntax.{w64}
 use mir.Facts.{toZ-ofZ, toZ-pos}
-use Rattle.ledger.proofs.Signed.{abs-plus, abs-minus, sfits-abs, turn, keep}
+use Rattle.ledger.proofs.Signed.{abs-plus, sfits-abs}
 use borrow.Author.Needs.{needs}
 use Rattle.judge.proofs.money.plus.Statement.{statement}
 use Rattle.judge.proofs.money.plus.Tie as tie

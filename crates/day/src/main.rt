@@ -1,9 +1,15 @@
 // A day at the scanner, as the gate runs it: seven answers are entered in a list of four rows and
 // counted, once in place and once on plain values, and then tallies that are full or nearly so.
-// What must be printed stands in the file stdout, worked out from the rules; the books themselves are
-// left to `books`.
+// What is printed is the contract of `render`: a text that is worked out by the books' definitions. The
+// books themselves are left to `books`.
 ghost use mathlib.Core.Path.{_≡_};
+ghost use mathlib.Core.List.{flatMap};
+ghost use lib.ListN.{getD};
+ghost use Rattle.text.specs.Pen.{pen, Wrote, Rendered};
+ghost use Rattle.books.specs.DayList.{columns, rowsOf};
+ghost use Rattle.books.specs.History.{empty as emptyTally};
 ghost use Rattle.books.specs.Tally.{tallyOf};
+ghost use Rattle.day.specs.Lines.{row as rowOf, tally as tallyWith, rowLine, yesOrNo, enterLine, tallyLine, countLine, entry, lastEntry, entries, wholeDay, unevenLines, bothLines, fromLines, fullLines, allLines};
 ghost use Rattle.day.specs.Page.{pageOf};
 use books::DayRow;
 use books::Tallied;
@@ -40,7 +46,9 @@ fn enter_in_place(list: [DayRow; 4], at: Row, row: DayRow) -> Page
     Page { ok, rows }
 }
 
-fn entry_at(at: usize, seal: u32, answer: u8, place: u8) -> Entry {
+fn entry_at(at: usize, seal: u32, answer: u8, place: u8) -> Entry
+    ensures { λ r. ⌜ r ≡ entry at seal answer place ⌝ }
+{
     Entry {
         at: Row::of(at),
         row: DayRow {
@@ -51,7 +59,9 @@ fn entry_at(at: usize, seal: u32, answer: u8, place: u8) -> Entry {
     }
 }
 
-fn nth(i: usize) -> Entry {
+fn nth(i: usize) -> Entry
+    ensures { λ r. ⌜ r ≡ getD entries i lastEntry ⌝ }
+{
     match i {
         0 => entry_at(0, 7001, 0, 0),
         1 => entry_at(1, 7002, 8, 1),
@@ -63,72 +73,102 @@ fn nth(i: usize) -> Entry {
     }
 }
 
-fn wide(x: u32) -> u64 {
+fn wide(x: u32) -> u64
+    ensures { λ r. ⌜ r ≡ x ⌝ }
+{
     x as u64
 }
 
-fn wide8(x: u8) -> u64 {
+fn wide8(x: u8) -> u64
+    ensures { λ r. ⌜ r ≡ x ⌝ }
+{
     x as u64
 }
 
-fn word(yes: bool) {
+fn put_yes_or_no(out: &mut [u8], at: usize, yes: bool) -> usize
+    ensures { λ r. ⌜ Wrote 4 (yesOrNo yes) (pen (now (out .entry)) at) (pen (now (out .exit)) r) ⌝ }
+{
     if yes {
-        lines::text(b" yes");
-    } else {
-        lines::text(b" no");
+        return text::put(out, at, b" yes");
     }
+    text::put(out, at, b" no")
 }
 
-fn spaced(n: u64) {
-    lines::text(b" ");
-    lines::number(n);
+fn put_row(out: &mut [u8], at: usize, seal: u32, answer: u8, place: u8) -> usize
+    ensures { λ r. ⌜ Wrote 67 (rowLine (rowOf seal answer place)) (pen (now (out .entry)) at) (pen (now (out .exit)) r) ⌝ }
+{
+    let named = text::put(out, at, b"row");
+    let sealed = text::put_count(out, named, b" ", wide(seal));
+    let answered = text::put_count(out, sealed, b" ", wide8(answer));
+    let placed = text::put_count(out, answered, b" ", wide8(place));
+    text::put(out, placed, b"\n")
 }
 
-fn print_row(seal: u32, answer: u8, place: u8) {
-    lines::text(b"row");
-    spaced(wide(seal));
-    spaced(wide8(answer));
-    spaced(wide8(place));
-    lines::end();
+fn put_entered(out: &mut [u8], at: usize, row: usize, ok: bool) -> usize
+    ensures { λ r. ⌜ Wrote 31 (enterLine row ok) (pen (now (out .entry)) at) (pen (now (out .exit)) r) ⌝ }
+{
+    let named = text::put(out, at, b"enter");
+    let numbered = text::put_count(out, named, b" ", row as u64);
+    let answered = put_yes_or_no(out, numbered, ok);
+    text::put(out, answered, b"\n")
 }
 
-fn print_entry(at: usize, ok: bool) {
-    lines::text(b"enter");
-    spaced(at as u64);
-    word(ok);
-    lines::end();
+fn put_entry(out: &mut [u8], at: usize, row: Row, ok: bool) -> usize
+    ensures { λ r. ⌜ Wrote 31 (enterLine (row .0) ok) (pen (now (out .entry)) at) (pen (now (out .exit)) r) ⌝ }
+{
+    put_entered(out, at, row.index(), ok)
 }
 
-fn print_tally(t: Tally) {
-    lines::text(b"tally");
-    spaced(wide(t.seen));
-    spaced(wide(t.passed));
-    spaced(wide(t.refused));
-    lines::end();
+fn put_tally(out: &mut [u8], at: usize, t: Tally) -> usize
+    ensures { λ r. ⌜ Wrote 69 (tallyLine t) (pen (now (out .entry)) at) (pen (now (out .exit)) r) ⌝ }
+{
+    let named = text::put(out, at, b"tally");
+    let seen = text::put_count(out, named, b" ", wide(t.seen));
+    let passed = text::put_count(out, seen, b" ", wide(t.passed));
+    let refused = text::put_count(out, passed, b" ", wide(t.refused));
+    text::put(out, refused, b"\n")
 }
 
 // What was answered, and the tally as it then stands.
-fn print_count(c: Tallied) {
-    lines::text(b"count");
-    word(c.ok);
-    lines::text(b" ");
-    print_tally(c.tally);
+fn put_counted(out: &mut [u8], at: usize, c: Tallied) -> usize
+    ensures { λ r. ⌜ Wrote 79 (countLine c) (pen (now (out .entry)) at) (pen (now (out .exit)) r) ⌝ }
+{
+    let named = text::put(out, at, b"count");
+    let answered = put_yes_or_no(out, named, c.ok);
+    let spaced = text::put(out, answered, b" ");
+    put_tally(out, spaced, c.tally)
 }
 
-fn print_list(rows: [DayRow; 4]) {
+fn put_list(out: &mut [u8], at: usize, rows: [DayRow; 4]) -> usize
+    ensures { λ r. ⌜ Wrote 268 (flatMap rowLine rows) (pen (now (out .entry)) at) (pen (now (out .exit)) r) ⌝ }
+{
+    let mut next = at;
     for i in 0..4 {
         let r = rows[i];
-        print_row(r.seal, r.answer, r.place);
+        next = put_row(out, next, r.seal, r.answer, r.place);
     }
+    next
 }
 
-fn print_apart(seals: [u32; 4], answers: [u8; 4], places: [u8; 4]) {
+fn put_columns(
+    out: &mut [u8],
+    at: usize,
+    seals: [u32; 4],
+    answers: [u8; 4],
+    places: [u8; 4],
+) -> usize
+    ensures { λ r. ⌜ Wrote 268 (flatMap rowLine (rowsOf (columns seals answers places))) (pen (now (out .entry)) at) (pen (now (out .exit)) r) ⌝ }
+{
+    let mut next = at;
     for i in 0..4 {
-        print_row(seals[i], answers[i], places[i]);
+        next = put_row(out, next, seals[i], answers[i], places[i]);
     }
+    next
 }
 
-fn empty() -> Tally {
+fn empty() -> Tally
+    ensures { λ r. ⌜ r ≡ emptyTally ⌝ }
+{
     Tally {
         seen: 0,
         passed: 0,
@@ -136,7 +176,9 @@ fn empty() -> Tally {
     }
 }
 
-fn day_in_place() {
+fn put_day_in_place(out: &mut [u8]) -> usize
+    ensures { λ r. ⌜ Wrote 1107 wholeDay (pen (now (out .entry)) 0) (pen (now (out .exit)) r) ⌝ }
+{
     let none = DayRow {
         seal: 0,
         answer: 0,
@@ -144,42 +186,48 @@ fn day_in_place() {
     };
     let mut rows = [none; 4];
     let mut t = empty();
+    let mut next = 0;
     for i in 0..7 {
         let e = nth(i);
         let at = e.at;
         let row = e.row;
         let page = enter_in_place(rows, at, row);
         rows = page.rows;
-        print_entry(at.index(), page.ok);
+        let entered = put_entry(out, next, at, page.ok);
         let c = count_in_place(t, row.answer == 0);
         t = c.tally;
-        print_count(c);
+        next = put_counted(out, entered, c);
     }
-    print_list(rows);
-    print_tally(t);
+    let listed = put_list(out, next, rows);
+    put_tally(out, listed, t)
 }
 
-fn day_apart() {
+fn put_day_apart(out: &mut [u8], start: usize) -> usize
+    ensures { λ r. ⌜ Wrote 1107 wholeDay (pen (now (out .entry)) start) (pen (now (out .exit)) r) ⌝ }
+{
     let mut seals = [0u32; 4];
     let mut answers = [0u8; 4];
     let mut places = [0u8; 4];
     let mut t = empty();
+    let mut next = start;
     for i in 0..7 {
         let e = nth(i);
         let at = e.at;
         let row = e.row;
         let ok = books::enter_apart(&mut seals, &mut answers, &mut places, at, row);
-        print_entry(at.index(), ok);
+        let entered = put_entry(out, next, at, ok);
         let c = books::counted(t, row.answer == 0);
         t = c.tally;
-        print_count(c);
+        next = put_counted(out, entered, c);
     }
-    print_apart(seals, answers, places);
-    print_tally(t);
+    let listed = put_columns(out, next, seals, answers, places);
+    put_tally(out, listed, t)
 }
 
 // Columns of unequal lengths: a fourth row is past the end of the shortest, and no column changes.
-fn day_uneven() {
+fn put_uneven(out: &mut [u8], at: usize) -> usize
+    ensures { λ r. ⌜ Wrote 196 unevenLines (pen (now (out .entry)) at) (pen (now (out .exit)) r) ⌝ }
+{
     let mut seals = [0u32; 4];
     let mut answers = [0u8; 3];
     let mut places = [0u8; 4];
@@ -188,39 +236,75 @@ fn day_uneven() {
         answer: 9,
         place: 3,
     };
-    print_entry(
-        3,
-        books::enter_apart(&mut seals, &mut answers, &mut places, Row::of(3), row),
-    );
-    print_entry(
-        2,
-        books::enter_apart(&mut seals, &mut answers, &mut places, Row::of(2), row),
-    );
-    print_row(seals[2], answers[2], places[2]);
-    print_row(seals[3], 0, places[3]);
+    let fourth = Row::of(3);
+    let third = Row::of(2);
+    let past = books::enter_apart(&mut seals, &mut answers, &mut places, fourth, row);
+    let refused = put_entry(out, at, fourth, past);
+    let on = books::enter_apart(&mut seals, &mut answers, &mut places, third, row);
+    let entered = put_entry(out, refused, third, on);
+    let shown = put_row(out, entered, seals[2], answers[2], places[2]);
+    put_row(out, shown, seals[3], 0, places[3])
 }
 
-// A pass and then a refusal, each counted in place and by value, from a tally of any counts.
-fn from(seen: u32, passed: u32, refused: u32) {
+// A pass and then a refusal, each counted in place.
+fn put_both_in_place(out: &mut [u8], at: usize, t: Tally) -> usize
+    ensures { λ r. ⌜ Wrote 158 (bothLines t) (pen (now (out .entry)) at) (pen (now (out .exit)) r) ⌝ }
+{
+    let c = count_in_place(t, true);
+    let passed = put_counted(out, at, c);
+    put_counted(out, passed, count_in_place(c.tally, false))
+}
+
+// The same by value.
+fn put_both_by_value(out: &mut [u8], at: usize, t: Tally) -> usize
+    ensures { λ r. ⌜ Wrote 158 (bothLines t) (pen (now (out .entry)) at) (pen (now (out .exit)) r) ⌝ }
+{
+    let c = books::counted(t, true);
+    let passed = put_counted(out, at, c);
+    put_counted(out, passed, books::counted(c.tally, false))
+}
+
+// Both, from a tally of any counts.
+fn put_from(out: &mut [u8], at: usize, seen: u32, passed: u32, refused: u32) -> usize
+    ensures { λ r. ⌜ Wrote 316 (fromLines (tallyWith seen passed refused)) (pen (now (out .entry)) at) (pen (now (out .exit)) r) ⌝ }
+{
     let t = Tally {
         seen,
         passed,
         refused,
     };
-    let c = count_in_place(t, true);
-    print_count(c);
-    print_count(count_in_place(c.tally, false));
-    let d = books::counted(t, true);
-    print_count(d);
-    print_count(books::counted(d.tally, false));
+    let next = put_both_in_place(out, at, t);
+    put_both_by_value(out, next, t)
+}
+
+// Tallies that are full or nearly so.
+fn put_full(out: &mut [u8], at: usize) -> usize
+    ensures { λ r. ⌜ Wrote 1264 fullLines (pen (now (out .entry)) at) (pen (now (out .exit)) r) ⌝ }
+{
+    let seen_next = put_from(out, at, 4294967294, 4294967294, 0);
+    let seen_full = put_from(out, seen_next, 4294967295, 0, 0);
+    let passed_full = put_from(out, seen_full, 5, 4294967295, 7);
+    put_from(out, passed_full, 5, 7, 4294967295)
+}
+
+fn put_all(out: &mut [u8]) -> usize
+    ensures { λ r. ⌜ Wrote 3674 allLines (pen (now (out .entry)) 0) (pen (now (out .exit)) r) ⌝ }
+{
+    let in_place = put_day_in_place(out);
+    let apart = put_day_apart(out, in_place);
+    let uneven = put_uneven(out, apart);
+    put_full(out, uneven)
+}
+
+// All lines, from the start of a buffer that has room for them.
+fn render(out: &mut [u8; 4096]) -> usize
+    ensures { λ r. ⌜ Rendered allLines (now (out .entry)) (now (out .exit)) r ⌝ }
+{
+    put_all(out)
 }
 
 fn main() {
-    day_in_place();
-    day_apart();
-    day_uneven();
-    from(4294967294, 4294967294, 0);
-    from(4294967295, 0, 0);
-    from(5, 4294967295, 7);
-    from(5, 7, 4294967295);
+    let mut out = [0u8; 4096];
+    let end = render(&mut out);
+    lines::print(&out[..end]);
 }

@@ -1,36 +1,86 @@
 // Runs the published vectors of the standards and of the Zcash network, and lengths at which padding
 // turns over, and prints a line for each. The stored output was made by other implementations.
 // The hashes and the tree are left to the crates that have them.
+ghost use Prim.Native.Nat.{_+_, _*_, _≤_};
+ghost use lib.ListN.{length};
+ghost use Rattle.text.specs.Pen.{pen, Wrote, Rendered};
+ghost use Rattle.vectors.specs.Lines.{digestLine, refusedLine};
 use tree::Tree;
 
-fn digest(name: &[u8], bytes: &[u8]) {
-    lines::text(name);
-    lines::text(b" ");
-    lines::hex(bytes);
-    lines::end();
+fn put_digest(out: &mut [u8], name: &[u8], bytes: &[u8]) -> usize
+    ensures { λ r. ⌜ Wrote (length (now (name .entry)) + 2 * length (now (bytes .entry)) + 2) (digestLine (now (name .entry)) (now (bytes .entry))) (pen (now (out .entry)) 0) (pen (now (out .exit)) r) ⌝ }
+{
+    let named = text::put(out, 0, name);
+    let spaced = text::put(out, named, b" ");
+    let digits = text::put_hex(out, spaced, bytes);
+    text::put(out, digits, b"\n")
 }
 
-fn sha(name: &[u8], message: &[u8]) {
+fn put_refused(out: &mut [u8], name: &[u8]) -> usize
+    ensures { λ r. ⌜ Wrote (length (now (name .entry)) + 9) (refusedLine (now (name .entry))) (pen (now (out .entry)) 0) (pen (now (out .exit)) r) ⌝ }
+{
+    let named = text::put(out, 0, name);
+    text::put(out, named, b" refused\n")
+}
+
+// The line of a digest, in a buffer that has room for a name of 64 bytes and a digest of 64.
+fn render_digest(out: &mut [u8; 256], name: &[u8], bytes: &[u8]) -> usize
+    requires { ⌜ length (now name) + 2 * length (now bytes) ≤ 254 ⌝ }
+    ensures { λ r. ⌜ Rendered (digestLine (now (name .entry)) (now (bytes .entry))) (now (out .entry)) (now (out .exit)) r ⌝ }
+{
+    put_digest(out, name, bytes)
+}
+
+fn render_refused(out: &mut [u8; 256], name: &[u8]) -> usize
+    requires { ⌜ length (now name) ≤ 64 ⌝ }
+    ensures { λ r. ⌜ Rendered (refusedLine (now (name .entry))) (now (out .entry)) (now (out .exit)) r ⌝ }
+{
+    put_refused(out, name)
+}
+
+fn digest(name: &[u8], bytes: &[u8])
+    requires { ⌜ length (now name) + 2 * length (now bytes) ≤ 254 ⌝ }
+{
+    let mut line = [0u8; 256];
+    let end = render_digest(&mut line, name, bytes);
+    lines::print(&line[..end]);
+}
+
+fn refused(name: &[u8])
+    requires { ⌜ length (now name) ≤ 64 ⌝ }
+{
+    let mut line = [0u8; 256];
+    let end = render_refused(&mut line, name);
+    lines::print(&line[..end]);
+}
+
+fn sha(name: &[u8], message: &[u8])
+    requires { ⌜ length (now name) ≤ 64 ⌝ }
+{
     let d = sha256::hash(message);
     digest(name, &d);
 }
 
 // The first bytes, or all where there are no more.
-fn start(name: &[u8], bytes: &[u8], length: usize) {
-    if length <= bytes.len() {
-        digest(name, &bytes[0..length]);
+fn start(name: &[u8], bytes: [u8; 64], most: usize)
+    requires { ⌜ length (now name) ≤ 64 ⌝ }
+{
+    if most <= 64 {
+        digest(name, &bytes[..most]);
     } else {
-        digest(name, bytes);
+        digest(name, &bytes);
     }
 }
 
-fn blake(name: &[u8], message: &[u8], length: usize) {
-    let answer = blake2b::hash(message, &[0u8; 16], length);
+fn blake(name: &[u8], message: &[u8], size: usize)
+    requires { ⌜ length (now name) ≤ 64 ⌝ }
+{
+    let answer = blake2b::hash(message, &[0u8; 16], size);
     if answer.ok {
-        start(name, &answer.bytes, length);
+        let bytes = answer.bytes;
+        start(name, bytes, size);
     } else {
-        lines::text(name);
-        lines::text(b" refused\n");
+        refused(name);
     }
 }
 

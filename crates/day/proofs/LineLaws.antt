@@ -1,0 +1,121 @@
+-- The pieces that the calls write are the lines of the definitions; and a day, one entry more at a time.
+-- Assumes nothing.
+use Prim.Native.Nat.{ℕ, zero, suc, _+_, _*_, _≤_, _<_}
+use mathlib.Core.Path.{_≡_, refl, sym, ap, _∙_}
+use mathlib.Core.Bool.{Bool, true, false}
+use mathlib.Core.List.{List, [], _∷_, _++_, append-assoc, flatMap}
+use native.Mathlib.Numerals.{add-one}
+use native.Mathlib.Omega.{arith}
+use lib.ListN.{length, getD, drop}
+use lib.Seq.{drop-cons, drop-length}
+use borrow.Author.Tests.{ltb-true, ltb-false}
+use Rattle.text.specs.Words.{ascii}
+use Rattle.text.specs.Decimal.{decimal}
+use Rattle.text.specs.Pen.{Pen, Wrote}
+use Rattle.text.proofs.PenLaws.{start, then, text-as}
+use Rattle.books.specs.declared.DayRow.{DayRow}
+use Rattle.books.specs.declared.Tally.{Tally}
+use Rattle.books.specs.declared.Tallied.{Tallied}
+use Rattle.books.specs.DayList.{isOn, entered, Columns, rowsIn, rowsOf, enteredApart}
+use Rattle.books.specs.Tally.{tallyOf}
+use Rattle.books.proofs.DayLaws.{apart-past, apart-on}
+use Rattle.day.specs.declared.Entry.{Entry}
+use Rattle.day.specs.Lines.{row, rowLine, yesOrNo, enterLine, tallyLine, countLine, isPass, dayLines, lastEntry, entries, unevenRow, unevenFirst, unevenThen, unevenLast, unevenLines, bothLines}
+
+pub row-as : (seal answer place : ℕ) {s a p : ℕ} → s ≡ seal → a ≡ answer → p ≡ place
+    → ascii "row" ++ ((ascii " " ++ decimal s) ++ ((ascii " " ++ decimal a) ++ ((ascii " " ++ decimal p) ++ ascii "\n"))) ≡ rowLine (row seal answer place)
+unfolding rowLine
+row-as seal answer place h k l = rw (h, k, l) (simp append-assoc)
+
+pub tally-as : (t : Tally) {s p r : ℕ} → s ≡ t .seen → p ≡ t .passed → r ≡ t .refused
+    → ascii "tally" ++ ((ascii " " ++ decimal s) ++ ((ascii " " ++ decimal p) ++ ((ascii " " ++ decimal r) ++ ascii "\n"))) ≡ tallyLine t
+unfolding tallyLine
+tally-as t h k l = rw (h, k, l) (simp append-assoc)
+
+pub enter-as : (at : ℕ) (word : List ℕ) → ascii "enter" ++ ((ascii " " ++ decimal at) ++ (word ++ ascii "\n")) ≡ ascii "enter" ++ ascii " " ++ decimal at ++ word ++ ascii "\n"
+enter-as at word = simp append-assoc
+
+pub count-as : (c : Tallied) → ascii "count" ++ (yesOrNo (c .ok) ++ (ascii " " ++ tallyLine (c .tally))) ≡ countLine c
+unfolding countLine
+count-as c = simp append-assoc
+
+-- from the seventh entry on, the last
+pub seventh : (i : ℕ) → 6 ≤ i → getD entries i lastEntry ≡ lastEntry
+unfolding entries
+seventh zero h = absurd (omega arith)
+seventh (suc zero) h = absurd (omega arith)
+seventh (suc (suc zero)) h = absurd (omega arith)
+seventh (suc (suc (suc zero))) h = absurd (omega arith)
+seventh (suc (suc (suc (suc zero)))) h = absurd (omega arith)
+seventh (suc (suc (suc (suc (suc zero))))) h = absurd (omega arith)
+seventh (suc (suc (suc (suc (suc (suc zero)))))) h = refl
+seventh (suc (suc (suc (suc (suc (suc (suc i))))))) h = refl
+
+-- a row of columns
+pub row-at : (s a p : List ℕ) (i : ℕ) (d : DayRow) → i < length s → i < length a → i < length p → row (getD s i 0) (getD a i 0) (getD p i 0) ≡ getD (rowsIn s a p) i d
+unfolding rowsIn
+row-at [] a p i d h k l = absurd (omega arith)
+row-at (s ∷ ss) [] p i d h k l = absurd (omega arith)
+row-at (s ∷ ss) (a ∷ bs) [] i d h k l = absurd (omega arith)
+row-at (s ∷ ss) (a ∷ bs) (p ∷ ps) zero d h k l = refl
+row-at (s ∷ ss) (a ∷ bs) (p ∷ ps) (suc i) d h k l = row-at ss bs ps i d (omega arith) (omega arith) (omega arith)
+
+-- A DAY SO FAR: what was written for the first i of the entries es, and that with the lines of the others it is the whole
+pub record SoFar (whole : List ℕ) (es : List Entry) (i : ℕ) (rows : List DayRow) (t : Tally) (p q : Pen) : Type 0 where
+  pub text : List ℕ
+  pub wrote : Wrote (110 * i) text p q
+  pub rest : text ++ dayLines (drop i es) rows t ≡ whole
+
+pub none-yet : {whole : List ℕ} {es : List Entry} {rows : List DayRow} {t : Tally} (p : Pen) → dayLines es rows t ≡ whole → SoFar whole es 0 rows t p p
+none-yet p h = record { text = []; wrote = start p; rest = h }
+
+pub one-entry : {whole : List ℕ} {es : List Entry} {i : ℕ} {rows rows′ : List DayRow} {t : Tally} {p q r u : Pen} (e : Entry) (ok : Bool) (c : Tallied)
+    → i < length es → e ≡ getD es i lastEntry → ok ≡ isOn (e .at .0) rows → rows′ ≡ entered (e .at .0) (e .row) rows → c ≡ tallyOf t (isPass e)
+    → SoFar whole es i rows t p q → Wrote 31 (enterLine (e .at .0) ok) q r → Wrote 79 (countLine c) r u → SoFar whole es (i + 1) rows′ (c .tally) p u
+unfolding dayLines
+one-entry {es = es} {i = i} {rows = rows} {rows′ = rows′} {t = t} e ok c h k ho hr hc s f g =
+    let a = enterLine (e .at .0) ok ++ countLine c in
+    let z = dayLines (drop (i + 1) es) rows′ (c .tally) in
+    let d : drop i es ≡ e ∷ drop (i + 1) es = rw (add-one, k) (drop-cons es i lastEntry h) in
+    let step : a ++ z ≡ dayLines (drop i es) rows t = rw (d, ho, hr, hc) in
+    record {
+      text = s .text ++ a;
+      wrote = text-as (omega arith) refl (then (s .wrote) (then f g));
+      rest = append-assoc (s .text) a z ∙ ap (λ (l : List ℕ). s .text ++ l) step ∙ s .rest;
+    }
+
+pub no-more : {whole : List ℕ} {es : List Entry} {i : ℕ} {rows : List DayRow} {t : Tally} {p q r u : Pen} → i ≡ length es → SoFar whole es i rows t p q
+    → Wrote 268 (flatMap rowLine rows) q r → Wrote 69 (tallyLine t) r u → Wrote (110 * i + (268 + 69)) whole p u
+unfolding dayLines
+no-more {es = es} {i = i} {rows = rows} {t = t} h s f g =
+    let d : drop i es ≡ [] = rw h (drop-length es) in
+    text-as (omega arith) (rw d at (s .rest)) (then (s .wrote) (then f g))
+
+pub entries-seven : length entries ≡ 7
+unfolding entries
+entries-seven = refl
+
+-- the uneven columns, by what the calls answered and left
+pub uneven-as : (m n : ℕ) (first then last : Columns) (past on : Bool) → m ≡ 3 → n ≡ 2 → first ≡ unevenFirst → past ≡ isOn m (rowsOf first)
+    → then ≡ enteredApart m unevenRow first → on ≡ isOn n (rowsOf then) → last ≡ enteredApart n unevenRow then
+    → enterLine m past ++ (enterLine n on ++ (rowLine (row (getD (last .seals) 2 0) (getD (last .answers) 2 0) (getD (last .places) 2 0))
+    ++ rowLine (row (getD (last .seals) 3 0) 0 (getD (last .places) 3 0)))) ≡ unevenLines
+unfolding unevenLines unevenThen unevenLast
+uneven-as m n first then last past on hm hn hf hp ht ho hl = rw (ho, hl, hp, ht, hf, hm, hn) (simp append-assoc)
+
+-- a pass and then a refusal
+pub both-as : (t : Tally) {c d : Tallied} → c ≡ tallyOf t true → d ≡ tallyOf (c .tally) false → countLine c ++ countLine d ≡ bothLines t
+unfolding bothLines
+both-as t h k = rw (k, h)
+
+-- columns of four rows
+pub record Square (s a p : List ℕ) : Type 0 where
+  pub seals : length s ≡ 4
+  pub answers : length a ≡ 4
+  pub places : length p ≡ 4
+
+pub square-rows : {s a p : List ℕ} → Square s a p → length (rowsIn s a p) ≡ 4
+square-rows {s} {a} {p} z =
+    let past = apart-past 4 (row 0 0 0) s a p (omega (arith, z .seals, z .answers, z .places)) .0 in
+    let on = apart-on 3 (row 0 0 0) s a p (omega (arith, z .seals, z .answers, z .places)) .0 in
+    omega (arith, ltb-false 4 (length (rowsIn s a p)) (sym past), ltb-true 3 (length (rowsIn s a p)) (sym on))

@@ -1,0 +1,103 @@
+-- What the day's program prints: the answers of a day, entered and counted one after the other, and tallies that are full or nearly so.
+-- Assumes nothing.
+use Prim.Native.Nat.{ℕ}
+use mathlib.Core.Bool.{Bool, true, false}
+use mathlib.Core.List.{List, [], _∷_, _++_, flatMap}
+use lib.Dec.{eqb}
+use lib.ListN.{getD, replicate}
+use Rattle.octets.specs.Parts.{zeros}
+use Rattle.text.specs.Words.{ascii}
+use Rattle.text.specs.Decimal.{decimal}
+use Rattle.books.specs.declared.DayRow.{DayRow}
+use Rattle.books.specs.declared.Tally.{Tally}
+use Rattle.books.specs.declared.Tallied.{Tallied}
+use Rattle.books.specs.DayList.{isOn, entered, Columns, columns, rowsOf, enteredApart}
+use Rattle.books.specs.History.{empty}
+use Rattle.books.specs.Tally.{tallyOf}
+use Rattle.day.specs.declared.Entry.{Entry}
+
+abbrev pub row : ℕ → ℕ → ℕ → DayRow
+row seal answer place = record { seal = seal; answer = answer; place = place }
+
+abbrev pub tally : ℕ → ℕ → ℕ → Tally
+tally seen passed refused = record { seen = seen; passed = passed; refused = refused }
+
+-- THE LINES: a row of the list; an entering, its row number and whether there is such a row; a tally; a counting, whether it was taken and the tally then
+unfoldable pub rowLine : DayRow → List ℕ
+rowLine r =
+    ascii "row" ++ ascii " " ++ decimal (r .seal) ++ ascii " " ++ decimal (r .answer) ++ ascii " " ++ decimal (r .place) ++ ascii "\n"
+
+unfoldable pub yesOrNo : Bool → List ℕ
+yesOrNo true = ascii " yes"
+yesOrNo false = ascii " no"
+
+unfoldable pub enterLine : ℕ → Bool → List ℕ
+enterLine at ok = ascii "enter" ++ ascii " " ++ decimal at ++ yesOrNo ok ++ ascii "\n"
+
+unfoldable pub tallyLine : Tally → List ℕ
+tallyLine t =
+    ascii "tally" ++ ascii " " ++ decimal (t .seen) ++ ascii " " ++ decimal (t .passed) ++ ascii " " ++ decimal (t .refused) ++ ascii "\n"
+
+unfoldable pub countLine : Tallied → List ℕ
+countLine c = ascii "count" ++ yesOrNo (c .ok) ++ ascii " " ++ tallyLine (c .tally)
+
+-- A DAY: each answer is entered in the list and counted; then the list and the tally
+abbrev pub isPass : Entry → Bool
+isPass e = eqb (e .row .answer) 0
+
+unfoldable pub dayLines : List Entry → List DayRow → Tally → List ℕ
+dayLines [] rows t = flatMap rowLine rows ++ tallyLine t
+dayLines (e ∷ es) rows t =
+    enterLine (e .at .0) (isOn (e .at .0) rows) ++ countLine (tallyOf t (isPass e))
+    ++ dayLines es (entered (e .at .0) (e .row) rows) (tallyOf t (isPass e) .tally)
+
+-- the day's seven answers: in order, on a row that is used, past the end, and past every end
+abbrev pub entry : ℕ → ℕ → ℕ → ℕ → Entry
+entry at seal answer place = record { at = record { 0 = at }; row = row seal answer place }
+
+abbrev pub lastEntry : Entry
+lastEntry = entry 2 4294967295 255 255
+
+unfoldable pub entries : List Entry
+entries =
+    entry 0 7001 0 0 ∷ entry 1 7002 8 1 ∷ entry 3 7003 0 0 ∷ entry 4 7004 0 0 ∷ entry 1 7005 13 2 ∷ entry 18446744073709551615 7006 23 0 ∷ lastEntry ∷ []
+
+-- on four rows with nothing in them, and an empty tally
+unfoldable pub wholeDay : List ℕ
+wholeDay = dayLines entries (replicate 4 (row 0 0 0)) empty
+
+-- COLUMNS OF UNEQUAL LENGTHS: a fourth row is past the end of the shortest, and no column changes; a third is on the list
+abbrev pub unevenRow : DayRow
+unevenRow = row 7007 9 3
+
+unfoldable pub unevenFirst : Columns
+unevenFirst = columns (zeros 4) (zeros 3) (zeros 4)
+
+unfoldable pub unevenThen : Columns
+unevenThen = enteredApart 3 unevenRow unevenFirst
+
+unfoldable pub unevenLast : Columns
+unevenLast = enteredApart 2 unevenRow unevenThen
+
+unfoldable pub unevenLines : List ℕ
+unevenLines =
+    enterLine 3 (isOn 3 (rowsOf unevenFirst)) ++ enterLine 2 (isOn 2 (rowsOf unevenThen))
+    ++ rowLine (row (getD (unevenLast .seals) 2 0) (getD (unevenLast .answers) 2 0) (getD (unevenLast .places) 2 0))
+    ++ rowLine (row (getD (unevenLast .seals) 3 0) 0 (getD (unevenLast .places) 3 0))
+
+-- A PASS AND THEN A REFUSAL, from a tally of any counts: counted in place, and counted by value
+unfoldable pub bothLines : Tally → List ℕ
+bothLines t = countLine (tallyOf t true) ++ countLine (tallyOf (tallyOf t true .tally) false)
+
+unfoldable pub fromLines : Tally → List ℕ
+fromLines t = bothLines t ++ bothLines t
+
+-- from tallies that are full or nearly so
+unfoldable pub fullLines : List ℕ
+fullLines =
+    fromLines (tally 4294967294 4294967294 0) ++ fromLines (tally 4294967295 0 0) ++ fromLines (tally 5 4294967295 7)
+    ++ fromLines (tally 5 7 4294967295)
+
+-- ALL OF IT: a day in place and the same day in columns, the uneven columns, and the full tallies
+unfoldable pub allLines : List ℕ
+allLines = wholeDay ++ wholeDay ++ unevenLines ++ fullLines

@@ -1,13 +1,24 @@
 -- Which turn an entry has, by its kind's code and its body's length.
 -- Assumes nothing.
-use Prim.Native.Nat.{ℕ}
+use Prim.Native.Nat.{ℕ, _≤_, _<_}
 use mathlib.Core.Path.{_≡_}
 use mathlib.Core.List.{List}
 use lib.ListN.{length, take}
-use borrow.Author.Tests.{ne-eqb}
+use borrow.Author.Tests.{ne-eqb, le-leb, lt-leb}
+use Rattle.text.specs.Words.{nameLine}
 use Rattle.replay.specs.declared.State.{State}
 use Rattle.replay.specs.Looks.{ledgerText, rowsText, memoryText, sealText}
-use Rattle.replay.specs.Tape.{turn, brokenTurn, openTurn, plantTurn, caseTurn, blockTurn, lookTurn, bareTurn, sealTurn, entryTurn}
+use Rattle.replay.specs.Tape.{turn, brokenTurn, openTurn, plantTurn, caseTurn, blockTurn, lookTurn, bareTurn, sealTurn, nameTurn, entryTurn}
+
+-- a name that is short enough, and one that is not
+module _ (body t r : List ℕ) (s : State) where
+  pub name-short : length body ≤ 100 → turn s t r (nameLine body) ≡ nameTurn body t r s
+  unfolding nameTurn
+  name-short h = rw (le-leb (length body) 100 h)
+
+  pub name-long : 100 < length body → brokenTurn t r ≡ nameTurn body t r s
+  unfolding nameTurn
+  name-long h = rw (lt-leb (length body) 100 h)
 
 module _ (kind : ℕ) (t r : List ℕ) (s : State) where
   pub look-ledger : kind ≡ 76 → turn s t r (ledgerText (s .ledger)) ≡ lookTurn kind t r s
@@ -55,11 +66,15 @@ module _ (kind : ℕ) (t r : List ℕ) (s : State) where
     unfolding entryTurn sealTurn
     entry-no-seal h k = rw (h, ne-eqb (length body) 41 k)
 
-    module _ (o : kind ≡ 79 → ⊥) (p : kind ≡ 80 → ⊥) (c : kind ≡ 67 → ⊥) (z : kind ≡ 83 → ⊥) where
+    pub entry-name : kind ≡ 78 → nameTurn body t r s ≡ entryTurn kind body t r s
+    unfolding entryTurn
+    entry-name h = rw h
+
+    module _ (o : kind ≡ 79 → ⊥) (p : kind ≡ 80 → ⊥) (c : kind ≡ 67 → ⊥) (z : kind ≡ 83 → ⊥) (n : kind ≡ 78 → ⊥) where
       pub entry-bare : length body ≡ 0 → bareTurn kind t r s ≡ entryTurn kind body t r s
       unfolding entryTurn
-      entry-bare h = rw (ne-eqb kind 79 o, ne-eqb kind 80 p, ne-eqb kind 67 c, ne-eqb kind 83 z, h)
+      entry-bare h = rw (ne-eqb kind 79 o, ne-eqb kind 80 p, ne-eqb kind 67 c, ne-eqb kind 83 z, ne-eqb kind 78 n, h)
 
       pub entry-other : (length body ≡ 0 → ⊥) → brokenTurn t r ≡ entryTurn kind body t r s
       unfolding entryTurn
-      entry-other h = rw (ne-eqb kind 79 o, ne-eqb kind 80 p, ne-eqb kind 67 c, ne-eqb kind 83 z, ne-eqb (length body) 0 h)
+      entry-other h = rw (ne-eqb kind 79 o, ne-eqb kind 80 p, ne-eqb kind 67 c, ne-eqb kind 83 z, ne-eqb kind 78 n, ne-eqb (length body) 0 h)

@@ -10,7 +10,7 @@ use lib.Dec.{eqb, leb}
 use lib.ListN.{length, take, drop, getD}
 use Rattle.octets.specs.Numbers.{little}
 use Rattle.octets.specs.Parts.{zeros, field}
-use Rattle.text.specs.Words.{ascii}
+use Rattle.text.specs.Words.{ascii, nameLine}
 use Rattle.text.specs.Answers.{answerLine}
 use Rattle.text.specs.Pen.{pen, Wrote}
 use Rattle.refusals.specs.Table.{answer, accepted, first}
@@ -111,6 +111,10 @@ bareTurn kind t r s = cond (isKind "B" kind) (blockTurn t r s) (lookTurn kind t 
 unfoldable pub sealTurn : List ℕ → List ℕ → List ℕ → State → Turn
 sealTurn body t r s = cond (eqb (length body) 41) (turn s t r (sealText body)) (brokenTurn t r)
 
+-- N NAMES the run that follows, by a line of its own. Body: the name, of at most 100 bytes
+unfoldable pub nameTurn : List ℕ → List ℕ → List ℕ → State → Turn
+nameTurn body t r s = cond (leb (length body) 100) (turn s t r (nameLine body)) (brokenTurn t r)
+
 -- AN ENTRY by its kind
 unfoldable pub entryTurn : ℕ → List ℕ → List ℕ → List ℕ → State → Turn
 entryTurn kind body t r s =
@@ -118,8 +122,9 @@ entryTurn kind body t r s =
     (cond (isKind "P" kind) (plantTurn body t r)
     (cond (isKind "C" kind) (caseTurn body t r s)
     (cond (isKind "S" kind) (sealTurn body t r s)
+    (cond (isKind "N" kind) (nameTurn body t r s)
     (cond (eqb (length body) 0) (bareTurn kind t r s)
-    (brokenTurn t r)))))
+    (brokenTurn t r))))))
 
 -- WHAT STANDS NEXT on the tape, whose body was read to the start of the buffer b: at the end nothing is printed
 unfoldable pub nextTurn : Next → List ℕ → List ℕ → List ℕ → State → Turn

@@ -18,7 +18,7 @@ ghost use Rattle.text.specs.Answers.{answerWords, answerLine};
 ghost use Rattle.text.specs.Hex.{hex, hex64};
 ghost use Rattle.text.specs.Pen.{pen, Wrote};
 ghost use Rattle.replay.specs.Looks.{ledgerText, rowLine, rowLines, rowsText, memoryText, bitsOf, sealedText, sealText};
-ghost use Rattle.replay.specs.Tape.{nothing as nothingOf, goesOn, canLend, openTurn, plantTurn, caseTurn, blockTurn, lookTurn, bareTurn, entryTurn, nextTurn, lengthOf, longest, Within, Plays};
+ghost use Rattle.replay.specs.Tape.{nothing as nothingOf, goesOn, canLend, openTurn, plantTurn, caseTurn, blockTurn, lookTurn, bareTurn, nameTurn, entryTurn, nextTurn, lengthOf, longest, Within, Plays};
 use ledger::Answered;
 use ledger::Ledger;
 use ledger::Pool;
@@ -343,6 +343,18 @@ fn run_bare(kind: u8, table: &[u8], roll: &mut [u8], state: State, out: &mut [u8
     run_look(kind, table, roll, state, out)
 }
 
+// A name, which changes nothing but what is printed.
+fn run_name(body: &[u8], table: &[u8], roll: &[u8], state: State, out: &mut [u8]) -> Ran
+    requires { ⌜ Within state (now table) (now roll) ⌝ }
+    ensures { λ a. ⌜ Plays (nameTurn (now (body .entry)) (now (table .entry)) (now (roll .entry)) state) (now (table .entry)) (now (roll .entry)) (now (out .entry)) (now (out .exit)) a ⌝ }
+{
+    if body.len() <= 100 {
+        let end = text::put_name_line(out, 0, body);
+        return Ran { state, end };
+    }
+    broken(out)
+}
+
 fn run(
     kind: u8,
     body: &[u8],
@@ -369,6 +381,9 @@ fn run(
             return Ran { state, end };
         }
         return broken(out);
+    }
+    if kind == b'N' {
+        return run_name(body, table, roll, state, out);
     }
     if body.len() == 0 {
         return run_bare(kind, table, roll, state, out);

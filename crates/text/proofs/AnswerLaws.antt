@@ -7,12 +7,17 @@ use lib.ListN.{length, drop}
 use lib.Seq.{drop-append-seam}
 use Rattle.refusals.specs.declared.Answer.{Answer}
 use Rattle.refusals.specs.Table.{answer}
-use Rattle.text.specs.Words.{ascii}
+use Rattle.text.specs.Words.{ascii, nameLine}
 use Rattle.text.specs.Decimal.{decimal}
 use Rattle.text.specs.Answers.{answerWords, answerLine}
 use Rattle.text.proofs.DecimalLaws.{read, behind, read-decimal, behind-decimal}
 
--- an answer from the pieces that the calls write
+-- the line that names a run, from the pieces that the calls write
+pub name-as : (name : List ℕ) → ascii "run " ++ (name ++ ascii "\n") ≡ nameLine name
+unfolding nameLine
+name-as name = sym (append-assoc (ascii "run ") name (ascii "\n"))
+
+-- an answer likewise
 pub answer-as : (word : List ℕ) (a : Answer) (n p : ℕ) → n ≡ a .number → p ≡ a .place
     → word ++ ((ascii " " ++ decimal n) ++ (ascii " " ++ decimal p)) ≡ answerWords word a
 unfolding answerWords

@@ -9,6 +9,7 @@ ghost use Rattle.text.specs.Pen.{pen, Wrote};
 ghost use Rattle.text.specs.Decimal.{decimal, signedBy};
 ghost use Rattle.text.specs.Hex.{hexDigit, hexByte, hex, hex64};
 ghost use Rattle.text.specs.Answers.{answerWords, answerLine};
+ghost use Rattle.text.specs.Words.{nameLine};
 use refusals::Answer;
 
 // One byte.
@@ -118,4 +119,13 @@ pub fn put_answer_line(out: &mut [u8], at: usize, word: &[u8], a: Answer) -> usi
 {
     let next = put_answer(out, at, word, a);
     put(out, next, b"\n")
+}
+
+// The line that names what follows.
+pub fn put_name_line(out: &mut [u8], at: usize, name: &[u8]) -> usize
+    ensures { λ r. ⌜ Wrote (length (now (name .entry)) + 5) (nameLine (now (name .entry))) (pen (now (out .entry)) at) (pen (now (out .exit)) r) ⌝ }
+{
+    let word = put(out, at, b"run ");
+    let named = put(out, word, name);
+    put(out, named, b"\n")
 }

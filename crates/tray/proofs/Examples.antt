@@ -4,17 +4,21 @@ use Prim.Native.Nat.{ℕ}
 use mathlib.Core.Path.{_≡_, refl}
 use mathlib.Core.List.{List, []}
 use lib.ListN.{take}
-use Rattle.text.specs.Words.{ascii}
+use Rattle.text.specs.Words.{ascii, nameLine}
 use Rattle.text.specs.Decimal.{decimal, decimalWithin}
 use Rattle.text.specs.Answers.{answerWords, answerLine}
 use Rattle.scanning.specs.Setting.{freshScan}
 use Rattle.scanning.specs.Lines.{linesOf}
-use Rattle.tray.specs.declared.Next.the-variants.{Bag, End, Broken}
+use Rattle.tray.specs.declared.Next.the-variants.{Bag, Name, End, Broken}
 use Rattle.tray.specs.Tray.{linesFor}
 
 pub bag : (n : ℕ) (b : List ℕ) → linesFor (Bag n) b ≡ linesOf (freshScan (take n b))
 unfolding linesFor
 bag n b = refl
+
+pub name : (n : ℕ) (b : List ℕ) → linesFor (Name n) b ≡ nameLine (take n b)
+unfolding linesFor
+name n b = refl
 
 pub end : (b : List ℕ) → linesFor End b ≡ []
 unfolding linesFor

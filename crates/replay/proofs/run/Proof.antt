@@ -1,5 +1,5 @@
 use native.Mathlib.Omega.{arith}
-use Rattle.replay.proofs.KindLaws.{entry-open, entry-plant, entry-case, entry-seal, entry-no-seal, entry-bare, entry-other}
+use Rattle.replay.proofs.KindLaws.{entry-open, entry-plant, entry-case, entry-seal, entry-no-seal, entry-name, entry-bare, entry-other}
 use Rattle.replay.proofs.TurnLaws.{plays-as, plays-text, plays-broken}
 use borrow.Author.Needs.{needs}
 use Rattle.replay.proofs.run.Statement.{statement}
@@ -40,23 +40,31 @@ returns-5 c =
 
 returns-6 : tie.Need-returns-6
 returns-6 c =
-    let k = c .before .before .before .before in
-    let l = k .before .before .before .before in
-    let d = l .before in
-    let e = d .before in
-    let g = e .before in
-    let h = g .before in
-    plays-as (entry-bare _ _ _ _ _ (h .if1 .left) (g .if2 .left) (e .if3 .left) (d .if4 .left) (l .if6 .taken)) (k .run-bare .ensures)
+    let k = c .before .before in
+    let i = k .before .before .before .before in
+    plays-as (entry-name _ _ _ _ _ (i .if6 .taken)) (k .run-name .ensures)
 
 returns-7 : tie.Need-returns-7
 returns-7 c =
-    let k = c .before .before in
-    let l = k .before .before in
-    let d = l .before in
+    let k = c .before .before .before .before in
+    let l = k .before .before .before .before in
+    let n = l .before in
+    let d = n .before in
     let e = d .before in
     let g = e .before in
     let h = g .before in
-    plays-as (entry-other _ _ _ _ _ (h .if1 .left) (g .if2 .left) (e .if3 .left) (d .if4 .left) (l .if6 .left)) (plays-broken (k .broken2 .ensures .0) (k .broken2 .ensures .1))
+    plays-as (entry-bare _ _ _ _ _ (h .if1 .left) (g .if2 .left) (e .if3 .left) (d .if4 .left) (n .if6 .left) (l .if7 .taken)) (k .run-bare .ensures)
+
+returns-8 : tie.Need-returns-8
+returns-8 c =
+    let k = c .before .before in
+    let l = k .before .before in
+    let n = l .before in
+    let d = n .before in
+    let e = d .before in
+    let g = e .before in
+    let h = g .before in
+    plays-as (entry-other _ _ _ _ _ (h .if1 .left) (g .if2 .left) (e .if3 .left) (d .if4 .left) (n .if6 .left) (l .if7 .left)) (plays-broken (k .broken2 .ensures .0) (k .broken2 .ensures .1))
 
 pub run-spec : {M : Type 1} → statement M
 run-spec =
@@ -90,4 +98,9 @@ run-spec =
     returns-6
     (λ c κs. search needs)
     (λ c. search needs)
-    returns-7)
+    (λ c. search needs)
+    (λ c. search needs)
+    returns-7
+    (λ c κs. search needs)
+    (λ c. search needs)
+    returns-8)

@@ -262,19 +262,19 @@ OPEN = seal(0, 100.0)  # no gate: any reading that is a number passes
 
 
 def lengths():
-    """Bags at the ends of what a bag and a case may have. Each has its bytes and its lines."""
-    yield b"", BROKEN  # there is no count to read
-    yield b"\x01", BROKEN  # only half a count
-    yield table(), BROKEN  # a count of 0
-    yield bag(OPEN), ["seal 0 0", EMPTY]  # one row: a seal, and no case to judge
-    yield bag(OPEN, *[b"-"] * 7), ["seal 0 0", *["case 1 0"] * 7, EMPTY]  # eight rows are the most
-    yield bag(OPEN, *[b"-"] * 8), BROKEN  # nine rows, all in order but for their number
+    """Bags at the ends of what a bag and a case may have. Each has its name, its bytes and its lines."""
+    yield "no-bytes", b"", BROKEN  # there is no count to read
+    yield "half-a-count", b"\x01", BROKEN  # only half a count
+    yield "count-0", table(), BROKEN  # a count of 0
+    yield "seal-alone", bag(OPEN), ["seal 0 0", EMPTY]  # one row: a seal, and no case to judge
+    yield "eight-rows", bag(OPEN, *[b"-"] * 7), ["seal 0 0", *["case 1 0"] * 7, EMPTY]  # eight rows are the most
+    yield "nine-rows", bag(OPEN, *[b"-"] * 8), BROKEN  # nine rows, all in order but for their number
     around = len(bag(OPEN, b""))
     longest = b"-" * (MAX_BAG - around)
-    yield bag(OPEN, longest), ["seal 0 0", "case 1 0", EMPTY]  # 65,536 bytes: a long case is only refused
-    yield bag(OPEN, longest + b"-"), BROKEN  # a byte more: all in order but for the bag's length
+    yield "bag-of-65536", bag(OPEN, longest), ["seal 0 0", "case 1 0", EMPTY]  # 65,536 bytes: a long case is only refused
+    yield "bag-of-65537", bag(OPEN, longest + b"-"), BROKEN  # a byte more: all in order but for the bag's length
     whole = case("lengths", vpub_old=3, new=(1, 2))
-    yield bag(OPEN, whole[:-1], whole + b"-", whole), [
+    yield "cases-around-4210", bag(OPEN, whole[:-1], whole + b"-", whole), [
         "seal 0 0",
         "case 1 0",  # 4,209 bytes
         "case 1 0",  # 4,211 bytes, of which the first 4,210 would pass
@@ -286,51 +286,120 @@ def lengths():
 def layouts():
     """A table of three rows over 60 bytes, in order, and then with one thing wrong each time."""
     bodies = OPEN + b"abc" + b"xyz"
-    yield table((1, 29, 25), (2, 54, 3), (2, 57, 3)) + bodies, ["seal 0 0", "case 1 0", "case 1 0", EMPTY]
-    yield table((1, 29, 25), (2, 54, 3), (2, 57, 2)) + bodies, BROKEN  # the last body stops a byte short
-    yield table((1, 29, 25), (2, 54, 3), (2, 57, 4)) + bodies, BROKEN  # and here a byte past the end
-    yield table((1, 29, 25), (2, 54, 2), (2, 57, 3)) + bodies, BROKEN  # a gap of a byte between bodies
-    yield table((1, 29, 25), (2, 54, 4), (2, 57, 3)) + bodies, BROKEN  # two bodies that share a byte
+    yield "layout-in-order", table((1, 29, 25), (2, 54, 3), (2, 57, 3)) + bodies, ["seal 0 0", "case 1 0", "case 1 0", EMPTY]
+    yield "last-body-short", table((1, 29, 25), (2, 54, 3), (2, 57, 2)) + bodies, BROKEN  # the last body stops a byte short
+    yield "last-body-long", table((1, 29, 25), (2, 54, 3), (2, 57, 4)) + bodies, BROKEN  # and here a byte past the end
+    yield "gap-between-bodies", table((1, 29, 25), (2, 54, 2), (2, 57, 3)) + bodies, BROKEN  # a gap of a byte between bodies
+    yield "bodies-share-a-byte", table((1, 29, 25), (2, 54, 4), (2, 57, 3)) + bodies, BROKEN  # two bodies that share a byte
     # The same two with lengths that still add up to the bag's own.
-    yield table((1, 29, 25), (2, 54, 3), (2, 58, 3)) + bodies, BROKEN
-    yield table((1, 29, 25), (2, 54, 3), (2, 56, 3)) + bodies, BROKEN
-    yield table((1, 29, 25), (2, 57, 3), (2, 54, 3)) + bodies, BROKEN  # bodies in another order than rows
-    yield table((1, 30, 25), (2, 55, 3), (2, 58, 3)) + b"-" + bodies, BROKEN  # a gap after the table
-    yield table((2, 29, 25), (1, 54, 3), (2, 57, 3)) + bodies, BROKEN  # the kinds of two rows exchanged
-    yield table((2, 29, 25), (2, 54, 3), (2, 57, 3)) + bodies, BROKEN  # a case in front and no seal
-    yield table((1, 29, 25), (1, 54, 3), (2, 57, 3)) + bodies, BROKEN  # a second seal
-    yield table((1, 29, 25), (2, 54, 3), (3, 57, 3)) + bodies, BROKEN  # a kind that there is not
+    yield "gap-that-adds-up", table((1, 29, 25), (2, 54, 3), (2, 58, 3)) + bodies, BROKEN
+    yield "overlap-that-adds-up", table((1, 29, 25), (2, 54, 3), (2, 56, 3)) + bodies, BROKEN
+    yield "bodies-in-another-order", table((1, 29, 25), (2, 57, 3), (2, 54, 3)) + bodies, BROKEN  # bodies in another order than rows
+    yield "gap-after-the-table", table((1, 30, 25), (2, 55, 3), (2, 58, 3)) + b"-" + bodies, BROKEN  # a gap after the table
+    yield "kinds-exchanged", table((2, 29, 25), (1, 54, 3), (2, 57, 3)) + bodies, BROKEN  # the kinds of two rows exchanged
+    yield "case-in-front", table((2, 29, 25), (2, 54, 3), (2, 57, 3)) + bodies, BROKEN  # a case in front and no seal
+    yield "second-seal", table((1, 29, 25), (1, 54, 3), (2, 57, 3)) + bodies, BROKEN  # a second seal
+    yield "kind-3", table((1, 29, 25), (2, 54, 3), (3, 57, 3)) + bodies, BROKEN  # a kind that there is not
     # The second body would end at 2^32 + 50: only a sum that wraps meets the third row's offset.
-    yield table((1, 29, 25), (2, 54, 2 ** 32 - 4), (2, 50, 10)) + bodies, BROKEN
-    yield table((1, 29, 25), (2, 54, 3), (2, 57, 3))[:-1], BROKEN  # the bag ends inside its table
-    yield b"\x00\x03" + bag(OPEN, b"abc", b"xyz")[2:], BROKEN  # the count with its high byte first: 768
-    yield bag(OPEN[:-1], b"abc"), BROKEN  # a seal of 24 bytes
-    yield bag(OPEN + b"\x00", b"abc"), BROKEN  # and of 26
+    yield "length-that-wraps", table((1, 29, 25), (2, 54, 2 ** 32 - 4), (2, 50, 10)) + bodies, BROKEN
+    yield "ends-inside-the-table", table((1, 29, 25), (2, 54, 3), (2, 57, 3))[:-1], BROKEN  # the bag ends inside its table
+    yield "count-high-byte-first", b"\x00\x03" + bag(OPEN, b"abc", b"xyz")[2:], BROKEN  # the count with its high byte first: 768
+    # Every row but the first is a case: kind 1 and kind 0 are none, wherever they stand.
+    for row in range(2, 8):
+        for kind in (0, 1):
+            rows = [(1, 74, 25)] + [(2, 99 + i, 1) for i in range(7)]
+            rows[row] = (kind, *rows[row][1:])
+            yield f"kind-{kind}-in-row-{row + 1}", table(*rows) + OPEN + b"-" * 7, BROKEN
+    # Offsets and lengths of the same lowest bytes: each has four, and all count.
+    for width in (8, 16, 24):
+        more = 2 ** width
+        yield f"offset-above-{width}-bits", table((1, 20, 25), (2, 45 + more, 3)) + OPEN + b"abc", BROKEN
+        yield f"length-above-{width}-bits", table((1, 20, 25), (2, 45, 3 + more)) + OPEN + b"abc", BROKEN
+    yield "count-above-8-bits", struct.pack("<H", 258) + bag(OPEN, b"abc")[2:], BROKEN
+    yield "eight-rows-and-a-byte", bag(OPEN, *[b"-"] * 7) + b"-", BROKEN
+    yield "seal-of-24", bag(OPEN[:-1], b"abc"), BROKEN  # a seal of 24 bytes
+    yield "seal-of-26", bag(OPEN + b"\x00", b"abc"), BROKEN  # and of 26
 
 
 def seals():
     """What a seal's body can say. The case behind it is empty: it shows whether cases are judged."""
     nan, infinite = float("nan"), float("inf")
     passed = ["seal 0 0", "case 1 0", EMPTY]
-    for body, lines in [
-        (seal(3, 45.0, 40.0, 50.0), BROKEN),  # a gate kind that there is not
-        (seal(0, 45.0, low=-0.0), BROKEN),  # none uses no limit, and minus zero is not all zero bytes
-        (seal(1, 45.0, low=40.0, high=50.0), BROKEN),  # at least uses no high limit
-        (seal(2, 45.0, 50.0, 40.0), ["seal 21 0"]),  # low above high
-        (seal(1, nan, low=nan), ["seal 21 0"]),  # the limit is asked before the pull
-        (seal(2, 45.0, 40.0, infinite), ["seal 21 0"]),  # a limit that is not finite
-        (seal(0, nan), ["seal 22 0"]),  # no number: refused even where there is no gate
-        (seal(1, infinite, low=0.0), ["seal 22 0"]),  # above the limit, and not finite
-        (seal(2, nan, 40.0, 50.0), ["seal 22 0"]),  # neither below 40 nor above 50: still no pass
-        (seal(2, 40.0, 40.0, 50.0), passed),  # both ends are included
-        (seal(2, 50.0, 40.0, 50.0), passed),
-        (seal(2, nextafter(40.0, 0.0), 40.0, 50.0), ["seal 23 0"]),  # the next number below the low end
-        (seal(2, nextafter(50.0, 99.0), 40.0, 50.0), ["seal 23 0"]),  # and above the high end
-        (seal(1, -0.0, low=0.0), passed),  # a reading of minus zero; adding offset 0 makes the pull 0
-        (seal(2, -0.0, 0.0, -0.0), passed),  # and neither that pull nor the low end is above minus zero
-        (seal(1, -5e-324, low=0.0), ["seal 23 0"]),  # the number next below zero
+    for name, body, lines in [
+        ("gate-kind-3", seal(3, 45.0, 40.0, 50.0), BROKEN),  # a gate kind that there is not
+        ("none-with-minus-zero", seal(0, 45.0, low=-0.0), BROKEN),  # none uses no limit, and minus zero is not all zero bytes
+        ("at-least-with-a-high", seal(1, 45.0, low=40.0, high=50.0), BROKEN),  # at least uses no high limit
+        ("low-above-high", seal(2, 45.0, 50.0, 40.0), ["seal 21 0"]),  # low above high
+        ("limit-nan-before-pull", seal(1, nan, low=nan), ["seal 21 0"]),  # the limit is asked before the pull
+        ("limit-infinite", seal(2, 45.0, 40.0, infinite), ["seal 21 0"]),  # a limit that is not finite
+        ("nan-at-no-gate", seal(0, nan), ["seal 22 0"]),  # no number: refused even where there is no gate
+        ("infinite-at-least", seal(1, infinite, low=0.0), ["seal 22 0"]),  # above the limit, and not finite
+        ("nan-between", seal(2, nan, 40.0, 50.0), ["seal 22 0"]),  # neither below 40 nor above 50: still no pass
+        ("low-end", seal(2, 40.0, 40.0, 50.0), passed),  # both ends are included
+        ("high-end", seal(2, 50.0, 40.0, 50.0), passed),
+        ("below-the-low-end", seal(2, nextafter(40.0, 0.0), 40.0, 50.0), ["seal 23 0"]),  # the next number below the low end
+        ("above-the-high-end", seal(2, nextafter(50.0, 99.0), 40.0, 50.0), ["seal 23 0"]),  # and above the high end
+        ("minus-zero-at-least", seal(1, -0.0, low=0.0), passed),  # a reading of minus zero; adding offset 0 makes the pull 0
+        ("minus-zero-between", seal(2, -0.0, 0.0, -0.0), passed),  # and neither that pull nor the low end is above minus zero
+        ("next-below-zero", seal(1, -5e-324, low=0.0), ["seal 23 0"]),  # the number next below zero
     ]:
-        yield bag(body, b""), lines
+        yield name, bag(body, b""), lines
+
+
+def refused_cases():
+    """For each number and place that a fresh ledger can give: a case that is right but for that."""
+    def right(label, **more):
+        return case(f"refused {label}", vpub_old=9, new=(4, 5), **more)
+
+    def changed(label, at):
+        return with_byte_changed(right(label), at)
+
+    def topped(label, at):
+        file = right(label)
+        return file[:at] + bytes([file[at] | 0x10]) + file[at + 1:]
+
+    old, new, phi = [1834, 2902], [3970, 4074], 4178
+    twice = old_note("refused twice")
+    yield 1, 0, right("length")[:-1]
+    yield 4, 0, case("refused both", vpub_old=9, vpub_new=9)
+    yield 5, 1, case("refused 5 1", vpub_old=MAX_MONEY + 1, new=(MAX_MONEY + 1, 0))
+    yield 5, 2, case("refused 5 2", vpub_new=MAX_MONEY + 1, old=[old_note("much", MAX_MONEY + 1), old_note("none")])
+    yield 6, 0, right("anchor", anchor=secret("another root"))
+    yield 7, 0, right("twice", old=[twice, twice])
+    for i in (1, 2):
+        yield 9, i, topped(f"key {i}", old[i - 1])
+    yield 9, 3, topped("phi", phi)
+    for i in (1, 2):
+        notes = [old_note(f"stray {i} {k}", 9 if k == i else 0) for k in (1, 2)]
+        yield 10, i, case(f"refused stray {i}", old=notes, new=(9, 0))
+    yield 11, 0, case("refused balance", vpub_old=9, new=(4, 4))
+    for number, places in [
+        (12, [48, 80]),  # the nullifiers
+        (13, [at + 32 for at in old]),  # the old notes' addresses
+        (14, [240, 272]),  # the tags
+        (15, [at + 40 for at in new]),  # the new notes' rho
+        (16, [112, 144]),  # the commitments
+    ]:
+        for i, at in enumerate(places, 1):
+            yield number, i, changed(f"{number} {i}", at)
+
+
+def refusals():
+    """Each of them as the first case of a bag and as a later one; the case before it and behind it passes."""
+    before, behind = case("before", vpub_old=1, new=(1, 0)), case("behind", vpub_old=2, new=(0, 2))
+    for number, place, refused in refused_cases():
+        answer = f"case {number} {place}"
+        name = f"refused-{number}-{place}"
+        yield f"{name}-first", bag(OPEN, refused, behind), ["seal 0 0", answer, "case 0 0", "ledger spent 2 leaves 2 pool 2"]
+        yield f"{name}-later", bag(OPEN, before, refused, behind), [
+            "seal 0 0", "case 0 0", answer, "case 0 0", "ledger spent 4 leaves 4 pool 3",
+        ]
+    spent = case("spent again", vpub_old=1, new=(1, 0), old=[old_note("before old 1"), old_note("own")])
+    second = case("second spent", vpub_old=1, new=(1, 0), old=[old_note("own too"), old_note("before old 2")])
+    for place, refused in [(1, spent), (2, second)]:
+        yield f"refused-8-{place}-later", bag(OPEN, before, refused, behind), [
+            "seal 0 0", "case 0 0", f"case 8 {place}", "case 0 0", "ledger spent 4 leaves 4 pool 3",
+        ]
 
 
 def pairs():
@@ -351,11 +420,11 @@ def pairs():
     def judged(*cases):
         return bag(OPEN, *cases)
 
-    yield judged(a), lines("0 0", spent=2, pool=100)
-    yield judged(b), lines("0 0", spent=2, pool=7)
+    yield "a-alone", judged(a), lines("0 0", spent=2, pool=100)
+    yield "b-alone", judged(b), lines("0 0", spent=2, pool=7)
     # No nullifier in common: both orders pass and end alike.
-    yield judged(a, b), lines("0 0", "0 0", spent=4, pool=107)
-    yield judged(b, a), lines("0 0", "0 0", spent=4, pool=107)
+    yield "a-then-b", judged(a, b), lines("0 0", "0 0", spent=4, pool=107)
+    yield "b-then-a", judged(b, a), lines("0 0", "0 0", spent=4, pool=107)
 
     # Each of these five would pass alone, puts 5 in and has old notes in common with A. Beside it: what
     # it is answered after A, and what A is answered after it. A place is that of the nullifier in the
@@ -364,56 +433,63 @@ def pairs():
         notes = [one or old_note(f"{label} own"), two or old_note(f"{label} own")]
         return case(label, vpub_old=5, new=(5, 0), old=notes)
 
-    for shares, after_a, a_after in [
-        (sharing("first is first", one=first), "8 1", "8 1"),
-        (sharing("second is second", two=second), "8 2", "8 2"),
-        (sharing("second is first", two=first), "8 2", "8 1"),
-        (sharing("first is second", one=second), "8 1", "8 2"),
-        (sharing("both, exchanged", one=second, two=first), "8 1", "8 1"),
+    for name, shares, after_a, a_after in [
+        ("first-is-first", sharing("first is first", one=first), "8 1", "8 1"),
+        ("second-is-second", sharing("second is second", two=second), "8 2", "8 2"),
+        ("second-is-first", sharing("second is first", two=first), "8 2", "8 1"),
+        ("first-is-second", sharing("first is second", one=second), "8 1", "8 2"),
+        ("both-exchanged", sharing("both, exchanged", one=second, two=first), "8 1", "8 1"),
     ]:
-        yield judged(shares), lines("0 0", spent=2, pool=5)
-        yield judged(a, shares), lines("0 0", after_a, spent=2, pool=100)
-        yield judged(shares, a), lines("0 0", a_after, spent=2, pool=5)
+        yield f"{name}-alone", judged(shares), lines("0 0", spent=2, pool=5)
+        yield f"{name}-after-a", judged(a, shares), lines("0 0", after_a, spent=2, pool=100)
+        yield f"a-after-{name}", judged(shares, a), lines("0 0", a_after, spent=2, pool=5)
 
     # One is refused whether it is alone, first or last, and A passes: a commitment is wrong, the anchor
     # is not on the roll, and a file of the wrong length, which has no nullifiers though its bytes are A's.
-    for refused, answer in [
-        (with_byte_changed(case("pair claims wrong", vpub_old=1, new=(1, 0)), 112), "16 1"),
-        (case("pair elsewhere", anchor=secret("another root")), "6 0"),
-        (a[:-1], "1 0"),
+    for name, refused, answer in [
+        ("claims-wrong", with_byte_changed(case("pair claims wrong", vpub_old=1, new=(1, 0)), 112), "16 1"),
+        ("anchored-elsewhere", case("pair elsewhere", anchor=secret("another root")), "6 0"),
+        ("a-cut-short", a[:-1], "1 0"),
     ]:
-        yield judged(refused), lines(answer, spent=0, pool=0)
-        yield judged(refused, a), lines(answer, "0 0", spent=2, pool=100)
-        yield judged(a, refused), lines("0 0", answer, spent=2, pool=100)
+        yield f"{name}-alone", judged(refused), lines(answer, spent=0, pool=0)
+        yield f"{name}-then-a", judged(refused, a), lines(answer, "0 0", spent=2, pool=100)
+        yield f"a-then-{name}", judged(a, refused), lines("0 0", answer, spent=2, pool=100)
 
     # Neither half of the demand speaks of this pair: they share a nullifier, and one would not pass alone.
     # Here the order does show, since 8 is asked before 16.
     faulty = with_byte_changed(sharing("shares and claims wrong", one=first), 112)
-    yield judged(faulty), lines("16 1", spent=0, pool=0)
-    yield judged(faulty, a), lines("16 1", "0 0", spent=2, pool=100)
-    yield judged(a, faulty), lines("0 0", "8 1", spent=2, pool=100)
+    yield "shares-and-claims-wrong-alone", judged(faulty), lines("16 1", spent=0, pool=0)
+    yield "shares-and-claims-wrong-then-a", judged(faulty, a), lines("16 1", "0 0", spent=2, pool=100)
+    yield "a-then-shares-and-claims-wrong", judged(a, faulty), lines("0 0", "8 1", spent=2, pool=100)
 
     # Refused for its second nullifier, a case leaves nothing of its first one: a third case may spend it.
     left = old_note("left unspent")
     spoilt = sharing("spoilt", one=left, two=second)
     again = sharing("spends what was left", one=left)
-    yield judged(a, spoilt, again), lines("0 0", "8 2", "0 0", spent=4, pool=105)
+    yield "refused-leaves-its-first-unspent", judged(a, spoilt, again), lines("0 0", "8 2", "0 0", spent=4, pool=105)
 
     # What is carried and never checked moves no answer and no ledger.
     carried = with_carried_changed(a)
-    yield judged(carried), lines("0 0", spent=2, pool=100)
-    yield judged(a, carried), lines("0 0", "8 1", spent=2, pool=100)
-    yield judged(carried, b), lines("0 0", "0 0", spent=4, pool=107)
+    yield "a-with-carried-changed", judged(carried), lines("0 0", spent=2, pool=100)
+    yield "a-then-a-with-carried-changed", judged(a, carried), lines("0 0", "8 1", spent=2, pool=100)
+    yield "a-with-carried-changed-then-b", judged(carried, b), lines("0 0", "0 0", spent=4, pool=107)
+
+
+NAMED = 2 ** 31  # a length from here on is that of a name
 
 
 def tray():
-    """The bytes of the tray and its lines. It ends inside a bag, which ends the run."""
-    bags = [(data, lines) for _, data, lines in samples()]
-    bags += [*lengths(), *layouts(), *seals(), *pairs()]
-    stored = b"".join(struct.pack("<I", len(data)) + data for data, _ in bags)
+    """The bytes of the tray and its lines, a name before each bag. It ends inside a bag, which ends the run."""
+    runs = [*samples(), *lengths(), *layouts(), *seals(), *refusals(), *pairs()]
+    assert len({name for name, _, _ in runs}) == len(runs)
+    stored, printed = b"", []
+    for name, data, lines in runs:
+        stored += struct.pack("<I", NAMED + len(name)) + name.encode()
+        stored += struct.pack("<I", len(data)) + data
+        printed += [f"run {name}", *lines]
     cut = bag(OPEN)
     stored += struct.pack("<I", len(cut)) + cut[:-1]
-    return stored, [line for _, lines in bags for line in lines] + ["tray 50 0"]
+    return stored, printed + ["tray 50 0"]
 
 
 def as_text(lines):

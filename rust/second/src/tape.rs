@@ -12,6 +12,7 @@
 //! | `L` | empty | looks at the ledger | `ledger spent S leaves L anchors A pool P root HEX` |
 //! | `R` | empty | looks at the rows | `spent HEX` for each used table row, then `anchor HEX` for each used roll row |
 //! | `M` | empty | looks at the memory | `memory T R N`: the SHA-256 of the whole table, of the whole roll and of the record's 30 nodes, spare bytes and unused nodes included |
+//! | `N` | a name, at most 100 bytes | names the run that follows | `run NAME` |
 //! | `P` | counts and pool (3 x 8), the tree record, table length (4), roll length (4), both buffers | plants any ledger, damaged ones too | `plant 0 0` |
 //!
 //! Anything else, a wrong length, or an end inside an entry prints
@@ -33,6 +34,9 @@ pub const MAX_TABLE_BYTES: usize = MAX_SPENT * ROW_BYTES + ROW_BYTES - 1;
 
 /// The longest roll that a tape may lend: its rows and 31 spare bytes.
 pub const MAX_ROLL_BYTES: usize = MAX_ANCHORS * ROW_BYTES + ROW_BYTES - 1;
+
+/// The longest name that a tape or a tray may have.
+pub const MAX_NAME_BYTES: usize = 100;
 
 /// What a broken tape answers.
 const BROKEN: Answer = Answer::new(50, 0);
@@ -98,6 +102,7 @@ impl Player {
             b'R' => empty(body).map(|()| row_lines(&self.ledger)),
             b'M' => empty(body).map(|()| vec![memory_line(&self.ledger)]),
             b'P' => self.plant(body),
+            b'N' => name_line(body),
             _ => None,
         }
     }
@@ -131,6 +136,12 @@ impl Default for Player {
     fn default() -> Player {
         Player::new()
     }
+}
+
+/// The line of a name, which has at most 100 bytes.
+fn name_line(body: &[u8]) -> Option<Vec<String>> {
+    let name = std::str::from_utf8(body).ok()?;
+    (body.len() <= MAX_NAME_BYTES).then(|| vec![format!("run {name}")])
 }
 
 fn empty(body: &[u8]) -> Option<()> {

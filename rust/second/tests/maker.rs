@@ -390,7 +390,8 @@ fn a_tape_has_as_many_entries_as_asked() {
     for seed in 0..40 {
         let tape = make_tape(seed, 30);
         let is_broken = tape.lines.last().is_some_and(|line| line == "tape 50 0");
-        let count = entries(&tape.bytes).len();
+        let made = entries(&tape.bytes);
+        let count = made.iter().filter(|(kind, _)| *kind != b'N').count();
         if is_broken {
             broken += 1;
             assert!((30..=32).contains(&count), "seed {seed}");

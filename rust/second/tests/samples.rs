@@ -6,6 +6,7 @@ use std::path::{Path, PathBuf};
 
 use second::bag::{judge_bag, MAX_BAG_BYTES};
 use second::bytes::Reader;
+use second::tape::MAX_NAME_BYTES;
 
 /// A file or folder of the repository.
 fn at_home(name: &str) -> PathBuf {
@@ -27,14 +28,26 @@ fn as_text(lines: &[String]) -> String {
     lines.iter().map(|line| format!("{line}\n")).collect()
 }
 
-/// The next bag of a tray, behind its length. A tray hands on a byte more than
-/// a bag may have, so that a bag that is too long is refused by its layout.
-fn next_bag<'a>(tray: &mut Reader<'a>) -> Option<&'a [u8]> {
+/// What stands next on a tray.
+enum Next<'a> {
+    Bag(&'a [u8]),
+    Name(&'a [u8]),
+}
+
+/// A length from here on is that of a name.
+const NAMED: usize = 1 << 31;
+
+/// The next bag or name of a tray, behind its length. A tray hands on a byte
+/// more than a bag may have, so that a bag that is too long is refused by its
+/// layout.
+fn next_of<'a>(tray: &mut Reader<'a>) -> Option<Next<'a>> {
     let length = tray.u32()? as usize;
-    if length > MAX_BAG_BYTES + 1 {
-        return None;
+    if length < NAMED {
+        let is_short = length <= MAX_BAG_BYTES + 1;
+        return is_short.then(|| tray.run(length))?.map(Next::Bag);
     }
-    tray.run(length)
+    let is_short = length - NAMED <= MAX_NAME_BYTES;
+    is_short.then(|| tray.run(length - NAMED))?.map(Next::Name)
 }
 
 /// Judges each bag of a tray; what is no whole bag ends the run.
@@ -42,11 +55,14 @@ fn judge_tray(bytes: &[u8]) -> Vec<String> {
     let mut tray = Reader::new(bytes);
     let mut lines = Vec::new();
     while !tray.is_done() {
-        let Some(bag) = next_bag(&mut tray) else {
-            lines.push("tray 50 0".to_owned());
-            break;
-        };
-        lines.extend(judge_bag(bag));
+        match next_of(&mut tray) {
+            Some(Next::Bag(bag)) => lines.extend(judge_bag(bag)),
+            Some(Next::Name(name)) => lines.push(format!("run {}", String::from_utf8_lossy(name))),
+            None => {
+                lines.push("tray 50 0".to_owned());
+                break;
+            }
+        }
     }
     lines
 }
@@ -73,7 +89,12 @@ fn the_tray_prints_its_lines() {
 fn the_tray_has_every_sample() {
     let tray = fs::read(at_home("crates/tray/stdin")).expect("the tray");
     let mut reader = Reader::new(&tray);
-    let bags: Vec<&[u8]> = std::iter::from_fn(|| next_bag(&mut reader)).collect();
+    let mut bags = Vec::new();
+    while let Some(next) = next_of(&mut reader) {
+        if let Next::Bag(bag) = next {
+            bags.push(bag);
+        }
+    }
     for path in sample_bags() {
         let sample = fs::read(&path).expect("a bag");
         assert!(bags.contains(&&sample[..]), "{}", path.display());

@@ -13,6 +13,8 @@ mod scenes;
 mod seals;
 pub mod tampers;
 
+use std::collections::HashMap;
+
 use crate::answer::Answer;
 use crate::case::{Case, CASE_BYTES};
 use crate::judge::all_refusals;
@@ -62,7 +64,11 @@ struct Maker {
     player: Player,
     purse: Purse,
     made: Vec<Made>,
+    /// How many entries were made, names aside, and how many are wanted.
+    counted: usize,
     wanted: usize,
+    /// How often each name was given.
+    runs: HashMap<&'static str, usize>,
     /// Bends that have not been on the tape yet.
     bends_due: Vec<&'static Bend>,
     /// Pairs of neighbours in the table of refusals that have not both
@@ -95,7 +101,9 @@ impl Maker {
             player: Player::new(),
             purse,
             made: Vec::new(),
+            counted: 0,
             wanted,
+            runs: HashMap::new(),
             bends_due,
             pairs_due: neighbours(),
             tampers_due: Vec::new(),
@@ -107,12 +115,27 @@ impl Maker {
     }
 
     fn is_done(&self) -> bool {
-        self.made.len() >= self.wanted
+        self.counted >= self.wanted
+    }
+
+    /// Names what follows on the tape, if anything does. The first run of a name
+    /// has it alone, a later one with its number.
+    fn name(&mut self, name: &'static str) {
+        if self.is_done() {
+            return;
+        }
+        let runs = self.runs.entry(name).or_insert(0);
+        *runs += 1;
+        let number = *runs;
+        let name = match number {
+            1 => name.to_owned(),
+            _ => format!("{name}-{number}"),
+        };
+        self.put(b'N', name.as_bytes(), None);
     }
 
     /// The first entries as wanted, and perhaps a broken one.
     fn finish(mut self) -> Tape {
-        self.made.truncate(self.wanted);
         let mut bytes: Vec<u8> = Vec::new();
         for made in &self.made {
             bytes.extend(&made.bytes);
@@ -142,7 +165,13 @@ impl Maker {
         if matches!(kind, b'P' | b'C' | b'B') {
             self.memory_due = self.is_planted;
         }
-        self.made.push(Made { bytes, purpose });
+        let is_wanted = kind == b'N' || self.counted < self.wanted;
+        if kind != b'N' {
+            self.counted += 1;
+        }
+        if is_wanted {
+            self.made.push(Made { bytes, purpose });
+        }
         lines
     }
 

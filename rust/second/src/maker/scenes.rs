@@ -15,41 +15,45 @@ use super::seals::KINDS;
 use super::tampers::{fill_spare_bytes, fill_unused_nodes, most_pool, TAMPERS};
 use super::{Made, Maker};
 
-type Scene = fn(&mut Maker);
+/// What is done on a tape.
+type Act = fn(&mut Maker);
+
+/// A scene's name, and what it does.
+type Scene = (&'static str, Act);
 
 /// Every tape that is long enough has each of these, in a random order.
 const FIRST: [Scene; 15] = [
-    one_of_each,
-    bench,
-    bench,
-    narrow_rooms,
-    damage,
-    damage,
-    spare_rows,
-    rows_beside,
-    anywhere,
-    wrong_lengths,
-    big_table_with_room,
-    big_table_without_room,
-    full_roll,
-    deep_records,
-    order,
+    ("one-of-each", one_of_each),
+    ("bench", bench),
+    ("bench", bench),
+    ("narrow-rooms", narrow_rooms),
+    ("damage", damage),
+    ("damage", damage),
+    ("spare-rows", spare_rows),
+    ("rows-beside", rows_beside),
+    ("anywhere", anywhere),
+    ("wrong-lengths", wrong_lengths),
+    ("big-table-with-room", big_table_with_room),
+    ("big-table-without-room", big_table_without_room),
+    ("full-roll", full_roll),
+    ("deep-records", deep_records),
+    ("order", order),
 ];
 
 /// What follows is chosen from these.
 const LATER: [Scene; 12] = [
-    day,
-    day,
-    day,
-    narrow_rooms,
-    damage,
-    spare_rows,
-    rows_beside,
-    elsewhere,
-    anywhere,
-    order,
-    deep_records,
-    something_long,
+    ("day", day),
+    ("day", day),
+    ("day", day),
+    ("narrow-rooms", narrow_rooms),
+    ("damage", damage),
+    ("spare-rows", spare_rows),
+    ("rows-beside", rows_beside),
+    ("elsewhere", elsewhere),
+    ("anywhere", anywhere),
+    ("order", order),
+    ("deep-records", deep_records),
+    ("something-long", something_long),
 ];
 
 /// Values of the notes of a ledger from elsewhere. Two of them are spent at
@@ -79,6 +83,7 @@ impl Maker {
     /// random scenes until there are enough entries.
     pub(super) fn play_scenes(&mut self) {
         if self.random.one_in(2) {
+            self.name("before-the-first-ledger");
             before_the_first_ledger(self);
         }
         let mut first = FIRST;
@@ -86,7 +91,7 @@ impl Maker {
         for scene in first {
             self.play_scene(scene);
         }
-        let benches: [Scene; 2] = [bench_elsewhere, bench];
+        let benches: [Scene; 2] = [("bench-elsewhere", bench_elsewhere), ("bench", bench)];
         for scene in benches.into_iter().cycle() {
             if self.is_done() || self.is_nothing_due() {
                 break;
@@ -104,9 +109,11 @@ impl Maker {
     }
 
     /// Plays a scene and a few seals, if there are not enough entries yet.
-    fn play_scene(&mut self, scene: Scene) {
+    fn play_scene(&mut self, (name, scene): Scene) {
         if !self.is_done() {
+            self.name(name);
             scene(self);
+            self.name("seals");
             seals(self);
         }
     }
@@ -166,7 +173,7 @@ fn day(maker: &mut Maker) {
 
 /// A day of one step of each kind.
 fn one_of_each(maker: &mut Maker) {
-    let mut steps: [Scene; 7] = [
+    let mut steps: [Act; 7] = [
         Maker::pair_case,
         Maker::mended_case,
         Maker::replayed_case,
@@ -613,7 +620,7 @@ fn ledger_from_elsewhere(
 
 /// One of the scenes with long entries, if the tape may have one more.
 fn something_long(maker: &mut Maker) {
-    let scenes: [Scene; 3] = [big_table_with_room, big_table_without_room, full_roll];
+    let scenes: [Act; 3] = [big_table_with_room, big_table_without_room, full_roll];
     if maker.take_long() {
         maker.random.pick(&scenes)(maker);
     }

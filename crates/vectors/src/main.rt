@@ -189,6 +189,130 @@ fn tree_vectors() {
     digest(b"root 01 02 03", &d);
 }
 
+// The parent of a node that has an empty subtree of its level to its right.
+fn above(node: [u8; 32], level: usize) -> [u8; 32] {
+    let right = nodes::empty_root(level);
+    nodes::parent(&node, &right)
+}
+
+// Two roots of the public node's own tests, of trees of depth 4 whose left and right differ. It prints
+// leaves in reverse; here the bytes are in order.
+fn parent_vectors() {
+    let one = [
+        0x62,
+        0xfd,
+        0xad,
+        0x9b,
+        0xfb,
+        0xf1,
+        0x7c,
+        0x38,
+        0xea,
+        0x62,
+        0x6a,
+        0x9c,
+        0x9b,
+        0x8a,
+        0xf8,
+        0xa7,
+        0x48,
+        0xe6,
+        0xb4,
+        0x36,
+        0x7c,
+        0x84,
+        0x94,
+        0xca,
+        0xf0,
+        0xca,
+        0x59,
+        0x29,
+        0x99,
+        0xe8,
+        0xb6,
+        0xba,
+    ];
+    let two = [
+        0x68,
+        0xeb,
+        0x35,
+        0xbc,
+        0x5e,
+        0x1d,
+        0xdb,
+        0x80,
+        0xa7,
+        0x61,
+        0x71,
+        0x8e,
+        0x63,
+        0xa1,
+        0xec,
+        0xf4,
+        0xd4,
+        0x97,
+        0x7a,
+        0xe2,
+        0x2c,
+        0xc1,
+        0x9f,
+        0xa7,
+        0x32,
+        0xb8,
+        0x55,
+        0x15,
+        0xb2,
+        0xa4,
+        0xc9,
+        0x43,
+    ];
+    let alone = above(above(above(above(one, 0), 1), 2), 3);
+    digest(b"root depth 4 one leaf", &alone);
+    let both = nodes::parent(&one, &two);
+    let beside = above(above(above(both, 1), 2), 3);
+    digest(b"root depth 4 two leaves", &beside);
+}
+
+// A spending key of the public node's own tests, and the address that its payment address begins with.
+fn address_vector() {
+    let key = [
+        0x0b,
+        0xbb,
+        0xa5,
+        0x71,
+        0x2b,
+        0xf4,
+        0x3c,
+        0x9d,
+        0xf6,
+        0xa7,
+        0x2f,
+        0x03,
+        0x62,
+        0x66,
+        0xaf,
+        0xfb,
+        0xca,
+        0x9c,
+        0xa1,
+        0xc2,
+        0x49,
+        0x9a,
+        0x93,
+        0x1d,
+        0x81,
+        0x7d,
+        0xf1,
+        0xdd,
+        0x5e,
+        0x4a,
+        0x08,
+        0xd1,
+    ];
+    let address = sprout::address(&key);
+    digest(b"address of a key", &address);
+}
+
 fn main() {
     sha_vectors();
     million();
@@ -197,4 +321,6 @@ fn main() {
     blake_edges();
     h_sig_vectors();
     tree_vectors();
+    parent_vectors();
+    address_vector();
 }

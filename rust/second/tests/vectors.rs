@@ -1,10 +1,10 @@
 //! The published vectors of the standards and of the Zcash network.
 
 use second::blake2b::blake2b;
-use second::bytes::hex;
-use second::hashes::h_sig;
+use second::bytes::{hex, Bytes32};
+use second::hashes::{address, h_sig};
 use second::sha256::{compress, compress_pair, sha256};
-use second::tree::{empty_root, root_of_leaves, Record, Tree, DEPTH};
+use second::tree::{empty_root, parent, root_of_leaves, Record, Tree, DEPTH};
 
 const NO_PERSONALIZATION: &[u8; 16] = &[0; 16];
 const EMPTY_ROOT: &str = "d7c612c817793191a1e68652121876d6b3bde40f4fa52bc314145ce6e5cdd259";
@@ -101,5 +101,41 @@ fn h_sig_of_zero_bytes() {
     assert_eq!(
         hex(&h_sig(&[0; 32], &[[0; 32]; 2], &[0; 32])),
         "191e7f1ebe471481a0c6c6aa734cf260294b14d2cb1ffb123bd95d6b27227369"
+    );
+}
+
+/// The root above a node of some level, in a tree of depth 4 that has nothing
+/// to the node's right.
+fn root_of_depth_4(node: Bytes32, level: usize) -> Bytes32 {
+    (level..4).fold(node, |left, level| parent(&left, &empty_root(level)))
+}
+
+/// A leaf as the public node prints it, the last byte first.
+fn leaf(printed: &str) -> Bytes32 {
+    let digits = |i: usize| u8::from_str_radix(&printed[2 * i..2 * i + 2], 16).expect("two digits");
+    std::array::from_fn(|i| digits(31 - i))
+}
+
+#[test]
+fn the_public_node_s_trees_of_depth_4() {
+    let one = leaf("bab6e8992959caf0ca94847c36b4e648a7f88a9b9c6a62ea387cf1fb9badfd62");
+    let two = leaf("43c9a4b21555b832a79fc12ce27a97d4f4eca1638e7161a780db1d5ebc35eb68");
+    assert_eq!(
+        hex(&root_of_depth_4(one, 0)),
+        "95bf71d8e803b8601c14b5949d0f92690181154ef9d82eb3e24852266823317a"
+    );
+    assert_eq!(
+        hex(&root_of_depth_4(parent(&one, &two), 1)),
+        "73f18d3f9cd11010aa01d4f444039e566f14ef282109df9649b2eb75e7a53ed1"
+    );
+}
+
+#[test]
+fn the_public_node_s_key_has_its_address() {
+    let mut key = leaf("0bbba5712bf43c9df6a72f036266affbca9ca1c2499a931d817df1dd5e4a08d1");
+    key.reverse();
+    assert_eq!(
+        hex(&address(&key)),
+        "4d3dc54738b98fc484cf84d0c914e60c92bcd23c3f4dfaa7f1c4496ac5f04d73"
     );
 }

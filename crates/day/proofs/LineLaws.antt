@@ -20,17 +20,19 @@ use Rattle.books.specs.DayList.{isOn, entered, Columns, rowsIn, rowsOf, entered
 use Rattle.books.specs.Tally.{tallyOf}
 use Rattle.books.proofs.DayLaws.{apart-past, apart-on}
 use Rattle.day.specs.declared.Entry.{Entry}
-use Rattle.day.specs.Lines.{row, rowLine, yesOrNo, enterLine, tallyLine, countLine, isPass, dayLines, lastEntry, entries, unevenRow, unevenFirst, unevenThen, unevenLast, unevenLines, bothLines}
+use Rattle.day.specs.Lines.{row, threeLine, rowLine, yesOrNo, enterLine, tallyLine, countLine, isPass, dayLines, lastEntry, entries, unevenRow, unevenFirst, unevenThen, unevenLast, unevenLines, bothLines}
 
-pub row-as : (seal answer place : ℕ) {s a p : ℕ} → s ≡ seal → a ≡ answer → p ≡ place
-    → ascii "row" ++ ((ascii " " ++ decimal s) ++ ((ascii " " ++ decimal a) ++ ((ascii " " ++ decimal p) ++ ascii "\n"))) ≡ rowLine (row seal answer place)
+pub three-as : (word : List ℕ) (a b c : ℕ) → word ++ ((ascii " " ++ decimal a) ++ ((ascii " " ++ decimal b) ++ ((ascii " " ++ decimal c) ++ ascii "\n"))) ≡ threeLine word a b c
+unfolding threeLine
+three-as word a b c = simp append-assoc
+
+pub row-as : (r : DayRow) {s a p : ℕ} → s ≡ r .seal → a ≡ r .answer → p ≡ r .place → threeLine (ascii "row") s a p ≡ rowLine r
 unfolding rowLine
-row-as seal answer place h k l = rw (h, k, l) (simp append-assoc)
+row-as r h k l = rw (h, k, l)
 
-pub tally-as : (t : Tally) {s p r : ℕ} → s ≡ t .seen → p ≡ t .passed → r ≡ t .refused
-    → ascii "tally" ++ ((ascii " " ++ decimal s) ++ ((ascii " " ++ decimal p) ++ ((ascii " " ++ decimal r) ++ ascii "\n"))) ≡ tallyLine t
+pub tally-as : (t : Tally) {s p r : ℕ} → s ≡ t .seen → p ≡ t .passed → r ≡ t .refused → threeLine (ascii "tally") s p r ≡ tallyLine t
 unfolding tallyLine
-tally-as t h k l = rw (h, k, l) (simp append-assoc)
+tally-as t h k l = rw (h, k, l)
 
 pub enter-as : (at : ℕ) (word : List ℕ) → ascii "enter" ++ ((ascii " " ++ decimal at) ++ (word ++ ascii "\n")) ≡ ascii "enter" ++ ascii " " ++ decimal at ++ word ++ ascii "\n"
 enter-as at word = simp append-assoc

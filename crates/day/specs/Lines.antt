@@ -23,9 +23,11 @@ abbrev pub tally : ℕ → ℕ → ℕ → Tally
 tally seen passed refused = record { seen = seen; passed = passed; refused = refused }
 
 -- THE LINES: a row of the list; an entering, its row number and whether there is such a row; a tally; a counting, whether it was taken and the tally then
+unfoldable pub threeLine : List ℕ → ℕ → ℕ → ℕ → List ℕ
+threeLine word a b c = word ++ ascii " " ++ decimal a ++ ascii " " ++ decimal b ++ ascii " " ++ decimal c ++ ascii "\n"
+
 unfoldable pub rowLine : DayRow → List ℕ
-rowLine r =
-    ascii "row" ++ ascii " " ++ decimal (r .seal) ++ ascii " " ++ decimal (r .answer) ++ ascii " " ++ decimal (r .place) ++ ascii "\n"
+rowLine r = threeLine (ascii "row") (r .seal) (r .answer) (r .place)
 
 unfoldable pub yesOrNo : Bool → List ℕ
 yesOrNo true = ascii " yes"
@@ -35,8 +37,7 @@ unfoldable pub enterLine : ℕ → Bool → List ℕ
 enterLine at ok = ascii "enter" ++ ascii " " ++ decimal at ++ yesOrNo ok ++ ascii "\n"
 
 unfoldable pub tallyLine : Tally → List ℕ
-tallyLine t =
-    ascii "tally" ++ ascii " " ++ decimal (t .seen) ++ ascii " " ++ decimal (t .passed) ++ ascii " " ++ decimal (t .refused) ++ ascii "\n"
+tallyLine t = threeLine (ascii "tally") (t .seen) (t .passed) (t .refused)
 
 unfoldable pub countLine : Tallied → List ℕ
 countLine c = ascii "count" ++ yesOrNo (c .ok) ++ ascii " " ++ tallyLine (c .tally)

@@ -3,13 +3,14 @@
 // What is printed is the contract of `render`: a text that is worked out by the books' definitions. The
 // books themselves are left to `books`.
 ghost use mathlib.Core.Path.{_≡_};
+ghost use Prim.Native.Nat.{_+_};
 ghost use mathlib.Core.List.{flatMap};
-ghost use lib.ListN.{getD};
+ghost use lib.ListN.{length, getD};
 ghost use Rattle.text.specs.Pen.{pen, Wrote, Rendered};
 ghost use Rattle.books.specs.DayList.{columns, rowsOf};
 ghost use Rattle.books.specs.History.{empty as emptyTally};
 ghost use Rattle.books.specs.Tally.{tallyOf};
-ghost use Rattle.day.specs.Lines.{row as rowOf, tally as tallyWith, rowLine, yesOrNo, enterLine, tallyLine, countLine, entry, lastEntry, entries, wholeDay, unevenLines, bothLines, fromLines, fullLines, allLines};
+ghost use Rattle.day.specs.Lines.{row as rowOf, tally as tallyWith, threeLine, rowLine, yesOrNo, enterLine, tallyLine, countLine, entry, lastEntry, entries, wholeDay, unevenLines, bothLines, fromLines, fullLines, allLines};
 ghost use Rattle.day.specs.Page.{pageOf};
 use books::DayRow;
 use books::Tallied;
@@ -94,14 +95,21 @@ fn put_yes_or_no(out: &mut [u8], at: usize, yes: bool) -> usize
     text::put(out, at, b" no")
 }
 
+// A word and three numbers.
+fn put_three(out: &mut [u8], at: usize, word: &[u8], a: u64, b: u64, c: u64) -> usize
+    ensures { λ r. ⌜ Wrote (length (now (word .entry)) + 64) (threeLine (now (word .entry)) a b c) (pen (now (out .entry)) at) (pen (now (out .exit)) r) ⌝ }
+{
+    let named = text::put(out, at, word);
+    let first = text::put_count(out, named, b" ", a);
+    let second = text::put_count(out, first, b" ", b);
+    let third = text::put_count(out, second, b" ", c);
+    text::put(out, third, b"\n")
+}
+
 fn put_row(out: &mut [u8], at: usize, seal: u32, answer: u8, place: u8) -> usize
     ensures { λ r. ⌜ Wrote 67 (rowLine (rowOf seal answer place)) (pen (now (out .entry)) at) (pen (now (out .exit)) r) ⌝ }
 {
-    let named = text::put(out, at, b"row");
-    let sealed = text::put_count(out, named, b" ", wide(seal));
-    let answered = text::put_count(out, sealed, b" ", wide8(answer));
-    let placed = text::put_count(out, answered, b" ", wide8(place));
-    text::put(out, placed, b"\n")
+    put_three(out, at, b"row", wide(seal), wide8(answer), wide8(place))
 }
 
 fn put_entered(out: &mut [u8], at: usize, row: usize, ok: bool) -> usize
@@ -122,11 +130,14 @@ fn put_entry(out: &mut [u8], at: usize, row: Row, ok: bool) -> usize
 fn put_tally(out: &mut [u8], at: usize, t: Tally) -> usize
     ensures { λ r. ⌜ Wrote 69 (tallyLine t) (pen (now (out .entry)) at) (pen (now (out .exit)) r) ⌝ }
 {
-    let named = text::put(out, at, b"tally");
-    let seen = text::put_count(out, named, b" ", wide(t.seen));
-    let passed = text::put_count(out, seen, b" ", wide(t.passed));
-    let refused = text::put_count(out, passed, b" ", wide(t.refused));
-    text::put(out, refused, b"\n")
+    put_three(
+        out,
+        at,
+        b"tally",
+        wide(t.seen),
+        wide(t.passed),
+        wide(t.refused),
+    )
 }
 
 // What was answered, and the tally as it then stands.

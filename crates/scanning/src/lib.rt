@@ -52,6 +52,7 @@ fn put_cases(out: &mut [u8], at: usize, answers: [Answer; 7], n: usize) -> usize
     next
 }
 
+// A pool, with its sign.
 pub fn put_pool(out: &mut [u8], at: usize, pool: Pool) -> usize
     ensures { λ r. ⌜ Wrote 21 (signed (pool .0)) (pen (now (out .entry)) at) (pen (now (out .exit)) r) ⌝ }
 {

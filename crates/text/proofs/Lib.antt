@@ -1,4 +1,5 @@
 pub mod AnswerLaws
 pub mod DecimalLaws
+pub mod Examples
 pub mod HexLaws
 pub mod PenLaws

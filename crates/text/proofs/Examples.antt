@@ -1,0 +1,30 @@
+-- Numbers, bytes and an answer as text, byte by byte.
+-- Assumes nothing.
+use mathlib.Core.Path.{_≡_, refl}
+use mathlib.Core.List.{[], _∷_, flatMap}
+use Rattle.octets.specs.Numbers.{bigBytes}
+use Rattle.refusals.specs.Table.{answer}
+use Rattle.text.specs.Words.{ascii}
+use Rattle.text.specs.Decimal.{decimal, decimalWithin}
+use Rattle.text.specs.Hex.{hexDigit, hexByte, hex, hex64}
+use Rattle.text.specs.Answers.{answerWords, answerLine}
+
+pub zero : decimal 0 ≡ ascii "0"
+unfolding decimal decimalWithin
+zero = refl
+
+pub ten : decimal 10 ≡ ascii "10"
+unfolding decimal decimalWithin
+ten = refl
+
+pub bytes : hex (0 ∷ 9 ∷ 10 ∷ 255 ∷ []) ≡ ascii "00090aff"
+unfolding hex hexByte hexDigit flatMap
+bytes = refl
+
+pub number : hex64 0x3ff0000000000000 ≡ ascii "3ff0000000000000"
+unfolding hex64 hex hexByte hexDigit flatMap bigBytes
+number = refl
+
+pub refusal : answerLine (ascii "case") (answer 16 2) ≡ ascii "case 16 2\n"
+unfolding answerLine answerWords decimal decimalWithin
+refusal = refl

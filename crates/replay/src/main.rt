@@ -465,12 +465,12 @@ fn play(buffer: &mut [u8], table: &mut [u8], roll: &mut [u8], out: &mut [u8])
     }
 }
 
-// The longest body, table, roll and text that a tape may have. A table of 65,567 bytes has the 2,048 rows
-// that a ledger may use and 31 bytes more, a roll of 32,799 bytes the 1,024 and 31 more.
+// The longest body, table, roll and text that a tape may have. A table of 65,631 bytes has two rows more
+// than the 2,048 that a ledger may use, and 31 bytes; a roll of 32,863 bytes two more than 1,024, and 31.
 fn main() {
     let mut buffer = [0u8; 131072];
-    let mut table = [0u8; 65567];
-    let mut roll = [0u8; 32799];
+    let mut table = [0u8; 65631];
+    let mut roll = [0u8; 32863];
     let mut out = [0u8; 219136];
     play(&mut buffer, &mut table, &mut roll, &mut out);
 }

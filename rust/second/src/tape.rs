@@ -29,11 +29,14 @@ use crate::tree::{Record, Tree};
 /// The longest body of an entry.
 pub const MAX_BODY_BYTES: usize = 131_072;
 
-/// The longest table that a tape may lend: its rows and 31 spare bytes.
-pub const MAX_TABLE_BYTES: usize = MAX_SPENT * ROW_BYTES + ROW_BYTES - 1;
+/// How many rows more than a ledger may use a tape may lend.
+pub const ROWS_BEYOND: usize = 2;
 
-/// The longest roll that a tape may lend: its rows and 31 spare bytes.
-pub const MAX_ROLL_BYTES: usize = MAX_ANCHORS * ROW_BYTES + ROW_BYTES - 1;
+/// The longest table that a tape may lend: so many rows and 31 bytes.
+pub const MAX_TABLE_BYTES: usize = (MAX_SPENT + ROWS_BEYOND) * ROW_BYTES + ROW_BYTES - 1;
+
+/// The longest roll that a tape may lend: so many rows and 31 bytes.
+pub const MAX_ROLL_BYTES: usize = (MAX_ANCHORS + ROWS_BEYOND) * ROW_BYTES + ROW_BYTES - 1;
 
 /// The longest name that a tape or a tray may have.
 pub const MAX_NAME_BYTES: usize = 100;

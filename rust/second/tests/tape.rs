@@ -213,7 +213,7 @@ fn before_the_first_ledger_the_memory_has_only_nodes_of_zero_bytes() {
 }
 
 #[test]
-fn the_longest_buffers_hold_2048_and_1024_rows() {
+fn of_the_longest_buffers_2048_and_1024_rows_are_shown() {
     let mut ledger = Ledger::zeroed(vec![1; MAX_TABLE_BYTES], vec![2; MAX_ROLL_BYTES]);
     (ledger.spent, ledger.anchors) = (5_000, 5_000);
     let lines = play(&[planting(&ledger), entry(b'R', &[])].concat());
@@ -224,8 +224,8 @@ fn the_longest_buffers_hold_2048_and_1024_rows() {
 
 #[test]
 fn lengths_up_to_the_limits_are_taken() {
-    assert_eq!((MAX_TABLE_BYTES, MAX_ROLL_BYTES), (65_567, 32_799));
-    assert_eq!(play(&opening(65_567, 32_799)), ["open 0 0"]);
+    assert_eq!((MAX_TABLE_BYTES, MAX_ROLL_BYTES), (65_631, 32_863));
+    assert_eq!(play(&opening(65_631, 32_863)), ["open 0 0"]);
     assert_eq!(play(&entry(b'C', &[0; MAX_BODY_BYTES])), ["case 1 0"]);
 }
 

@@ -67,6 +67,8 @@ struct Maker {
     /// How many entries were made, names aside, and how many are wanted.
     counted: usize,
     wanted: usize,
+    /// Whether entries are put on the tape beside those that are wanted.
+    is_beside: bool,
     /// How often each name was given.
     runs: HashMap<&'static str, usize>,
     /// Bends that have not been on the tape yet.
@@ -103,6 +105,7 @@ impl Maker {
             made: Vec::new(),
             counted: 0,
             wanted,
+            is_beside: false,
             runs: HashMap::new(),
             bends_due,
             pairs_due: neighbours(),
@@ -121,7 +124,7 @@ impl Maker {
     /// Names what follows on the tape, if anything does. The first run of a name
     /// has it alone, a later one with its number.
     fn name(&mut self, name: &'static str) {
-        if self.is_done() {
+        if self.is_done() && !self.is_beside {
             return;
         }
         let runs = self.runs.entry(name).or_insert(0);
@@ -165,8 +168,9 @@ impl Maker {
         if matches!(kind, b'P' | b'C' | b'B') {
             self.memory_due = self.is_planted;
         }
-        let is_wanted = kind == b'N' || self.counted < self.wanted;
-        if kind != b'N' {
+        let is_beside = kind == b'N' || self.is_beside;
+        let is_wanted = is_beside || self.counted < self.wanted;
+        if !is_beside {
             self.counted += 1;
         }
         if is_wanted {

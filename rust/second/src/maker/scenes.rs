@@ -5,7 +5,9 @@ use crate::bytes::Bytes32;
 use crate::case::{Amount, Case, OldNote, Position, CASE_BYTES, MAX_MONEY};
 use crate::ledger::{Ledger, MAX_ANCHORS, MAX_SPENT, ROW_BYTES};
 use crate::random::Random;
-use crate::tape::{entry, plant_body, MAX_BODY_BYTES, MAX_ROLL_BYTES, MAX_TABLE_BYTES};
+use crate::tape::{
+    entry, plant_body, MAX_BODY_BYTES, MAX_ROLL_BYTES, MAX_TABLE_BYTES, ROWS_BEYOND,
+};
 use crate::tree::{climb, parent, Record, Tree, DEPTH, FULL};
 use crate::wallet::{balance, idle_note, set_nullifiers, write_case, Note, Plan};
 
@@ -71,6 +73,9 @@ const ODD_VALUES: [Amount; 10] = [
     Amount(0),
 ];
 
+/// A tape of so many entries has room for a few long ones beside them.
+const LONG_TAPE: usize = 600;
+
 /// How many due bends and pairs one scene works off.
 const DUE_AT_ONCE: usize = 90;
 
@@ -101,6 +106,10 @@ impl Maker {
         while !self.is_done() {
             let scene = *self.random.pick(&LATER);
             self.play_scene(scene);
+        }
+        if self.wanted >= LONG_TAPE {
+            self.is_beside = true;
+            beyond_the_limits(self);
         }
     }
 
@@ -678,6 +687,39 @@ fn full_roll(maker: &mut Maker) {
     maker.good_case();
     maker.bent_case();
     maker.look_at_ledger();
+}
+
+/// More rows lent than a ledger may use: counts below, at and above the limit,
+/// for judging and for closing.
+fn beyond_the_limits(maker: &mut Maker) {
+    for spent in [MAX_SPENT - 2, MAX_SPENT, MAX_SPENT + ROWS_BEYOND] {
+        maker.name("more-table-rows-than-the-limit");
+        maker.purse = Purse::from_elsewhere(&mut maker.random, &[Amount(5), Amount(6)]);
+        let rows = rows_with(&mut maker.random, &[], spent);
+        let ledger = ledger_from_elsewhere(maker, &rows, MAX_TABLE_BYTES, 3);
+        maker.plant(&ledger, &format!("{spent} nullifiers, more rows lent than the limit"));
+        ask_and_close(maker);
+    }
+    for anchors in [MAX_ANCHORS - 1, MAX_ANCHORS, MAX_ANCHORS + ROWS_BEYOND] {
+        maker.name("more-roll-rows-than-the-limit");
+        maker.purse = Purse::from_elsewhere(&mut maker.random, &[Amount(5), Amount(6)]);
+        let rows = rows_with(&mut maker.random, &[], 4);
+        let table = ragged_length(&mut maker.random, 8);
+        let mut ledger = ledger_from_elsewhere(maker, &rows, table, anchors.min(MAX_ANCHORS));
+        ledger.anchors = anchors as u64;
+        ledger.roll.resize(MAX_ROLL_BYTES, 1);
+        maker.plant(&ledger, &format!("{anchors} anchors, more rows lent than the limit"));
+        ask_and_close(maker);
+    }
+}
+
+/// A good case, a closing, and both once more.
+fn ask_and_close(maker: &mut Maker) {
+    for _ in 0..2 {
+        maker.good_case();
+        maker.close_block();
+    }
+    maker.look_at_memory("memory beyond the limits");
 }
 
 /// Leaf counts at which a record's root may go wrong.

@@ -25,7 +25,7 @@ use Rattle.seal.specs.declared.Sealed.{Sealed}
 use Rattle.seal.specs.declared.Sealed.the-variants.{Passed}
 use Rattle.seal.specs.Body.{floatOf, readOf}
 use Rattle.seal.specs.Judgement.{judgeOf, sealAnswer}
-use Rattle.replay.specs.Looks.{ledgerText, rowsShown, rowLines, rowsText, memoryText, bitsOf, sealedText, readText, sealText}
+use Rattle.replay.specs.Looks.{ledgerText, rowsShown, rowLines, rowsText, memoryText, pullBits, sealedText, readText, sealText}
 
 pub pool-as : (z : ℤ) {root root′ : List ℕ} → root ≡ root′
     → ascii " pool " ++ (signed z ++ ((ascii " root " ++ hex root) ++ ascii "\n")) ≡ ascii " pool " ++ signed z ++ ascii " root " ++ hex root′ ++ ascii "\n"
@@ -43,13 +43,13 @@ pub memory-as : (t r : List ℕ) (l : Ledger)
 unfolding memoryText
 memory-as t r l = simp append-assoc
 
-pub passed-as : (a : Answer) (pull : Float) (bits : ℕ) → bits ≡ bitsOf pull
-    → answerWords (ascii "seal") a ++ (ascii " " ++ (hex64 bits ++ ascii "\n")) ≡ answerWords (ascii "seal") a ++ ascii " " ++ hex64 (bitsOf pull) ++ ascii "\n"
+pub passed-as : (a : Answer) (pull : Float) (bits : ℕ) → bits ≡ pullBits pull
+    → answerWords (ascii "seal") a ++ (ascii " " ++ (hex64 bits ++ ascii "\n")) ≡ answerWords (ascii "seal") a ++ ascii " " ++ hex64 (pullBits pull) ++ ascii "\n"
 passed-as a pull bits e = rw e (simp append-assoc)
 
 -- a seal's text, by its answer
 pub passed-is : (s : Sealed) (a : Answer) (pull : Float) → s ≡ Passed pull → a ≡ sealAnswer s
-    → answerWords (ascii "seal") a ++ ascii " " ++ hex64 (bitsOf pull) ++ ascii "\n" ≡ sealedText s
+    → answerWords (ascii "seal") a ++ ascii " " ++ hex64 (pullBits pull) ++ ascii "\n" ≡ sealedText s
 unfolding sealedText
 passed-is s a pull e h = rw (h, e)
 

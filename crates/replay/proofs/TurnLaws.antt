@@ -4,7 +4,7 @@
 use Prim.Native.Nat.{ℕ, _+_, _≤_}
 use mathlib.Core.Path.{_≡_, refl, sym, ap, subst, _∙_}
 use mathlib.Core.Bool.{Bool, true, false}
-use mathlib.Core.List.{List, [], _++_}
+use mathlib.Core.List.{List, _++_}
 use native.Mathlib.Omega.{arith}
 use lib.Dec.{eqb, leb}
 use lib.ListN.{length, take, drop, length-append}
@@ -16,7 +16,7 @@ use Rattle.octets.proofs.PartLaws.{zeros-length, field-length}
 use Rattle.text.specs.Words.{ascii}
 use Rattle.text.specs.Answers.{answerLine}
 use Rattle.text.specs.Pen.{pen, Wrote}
-use Rattle.text.proofs.PenLaws.{start, text-as}
+use Rattle.text.proofs.PenLaws.{text-as}
 use Rattle.refusals.specs.declared.Answer.{Answer}
 use Rattle.refusals.specs.Table.{answer, accepted, first}
 use Rattle.refusals.proofs.TableLaws.{and-both}
@@ -33,43 +33,22 @@ use Rattle.replay.specs.Tape.{Turn, turn, goesOn, nothing, brokenTurn, l
 pub plays-as : {u v : Turn} {t r x x′ : List ℕ} {a : Ran} → u ≡ v → Plays u t r x x′ a → Plays v t r x x′ a
 plays-as {t = t} {r = r} {x = x} {x′ = x′} {a = a} e h = subst (λ (w : Turn). Plays w t r x x′ a) e h
 
--- a text that changes nothing
-pub plays-text : {t r x x′ y : List ℕ} {b e : ℕ} {s : State} → b ≤ longest → Within s t r → Wrote b y (pen x 0) (pen x′ e) → Plays (turn s t r y) t r x x′ (record { state = s; end = e })
-plays-text h w k = record { state = refl; table = refl; roll = refl; text = text-as h refl k; within = w }
+-- what lies within, of the same state by another name; and of a state with no bytes lent
+pub within-as : {s z : State} {t r : List ℕ} → s ≡ z → Within z t r → Within s t r
+within-as {t = t} {r = r} e h = subst (λ (w : State). Within w t r) (sym e) h
 
--- the end of the run
+pub nowhere : (on : Bool) (t r : List ℕ) → Within (nothing on) t r
+nowhere on t r = record { table = omega arith; roll = omega arith }
+
+-- a turn by its state and its text
+pub plays : {b e : ℕ} {s z : State} {t r x x′ y : List ℕ} → b ≤ longest → s ≡ z → Within z t r → Wrote b y (pen x 0) (pen x′ e)
+    → Plays (turn z t r y) t r x x′ (record { state = s; end = e })
+plays h k i w = record { state = k; table = refl; roll = refl; text = text-as h refl w; within = within-as k i }
+
+-- what is no entry
 pub plays-broken : {t r x x′ : List ℕ} {a : Ran} → a .state ≡ nothing false → Wrote 47 (answerLine (ascii "tape") (answer 50 0)) (pen x 0) (pen x′ (a .end)) → Plays (brokenTurn t r) t r x x′ a
 unfolding brokenTurn
-plays-broken {a = a} h k =
-    record {
-      state = h;
-      table = refl;
-      roll = refl;
-      text = text-as (omega arith) refl k;
-      within = record { table = omega (arith, ap (λ (s : State). s .table) h); roll = omega (arith, ap (λ (s : State). s .roll) h) };
-    }
-
-pub plays-end : {t r x : List ℕ} {s : State} → s ≡ nothing false → Plays (turn (nothing false) t r []) t r x x (record { state = s; end = 0 })
-plays-end h =
-    record {
-      state = h;
-      table = refl;
-      roll = refl;
-      text = text-as (omega arith) refl (start _);
-      within = record { table = omega (arith, ap (λ (z : State). z .table) h); roll = omega (arith, ap (λ (z : State). z .roll) h) };
-    }
-
--- a text, and the ledger that goes on with it
-plays-answer : {n m e b : ℕ} {l : Ledger} {t r x x′ y : List ℕ} {s : State} → b ≤ longest → s ≡ goesOn l n m → n ≤ length t → m ≤ length r
-    → Wrote b y (pen x 0) (pen x′ e) → Plays (turn (goesOn l n m) t r y) t r x x′ (record { state = s; end = e })
-plays-answer h k i j w =
-    record {
-      state = k;
-      table = refl;
-      roll = refl;
-      text = text-as h refl w;
-      within = record { table = omega (arith, ap (λ (z : State). z .table) k); roll = omega (arith, ap (λ (z : State). z .roll) k) };
-    }
+plays-broken {t} {r} h k = plays (omega arith) h (nowhere false t r) k
 
 -- the bytes that an entry lends are there, and are still there once a call wrote as many over them
 pub lent-table : {b : Bool} (w : Bool) (n m table roll : ℕ) → b ≡ canLend w n m table roll → b ≡ true → n ≤ table
@@ -96,7 +75,7 @@ open-plays body t r p q x x′ n m e b a s hn hm hb h ha hl hp hq hk w hs =
     let k : openIf n m body t r ≡ openTurn body t r = rw (hn, hm) in
     let d : openOn n m t r ≡ openIf n m body t r = rw (sym hb ∙ h) in
     let v : turn (goesOn (a .ledger) n m) (p ++ drop n t) (q ++ drop m r) (answerLine (ascii "open") (a .answer)) ≡ openOn n m t r = rw (ha, hl, hp, hq, i, j) in
-    plays-as (v ∙ d ∙ k) (plays-answer (omega arith) hs (still n p t (ap length hp ∙ zeros-length _ ∙ i)) (still m q r (hk ∙ j)) w)
+    plays-as (v ∙ d ∙ k) (plays (omega arith) hs (record { table = still n p t (ap length hp ∙ zeros-length _ ∙ i); roll = still m q r (hk ∙ j) }) w)
 
 pub open-broken : (body t r x x′ : List ℕ) (n m : ℕ) (b : Bool) (a : Ran) → n ≡ little (field 0 4 body) → m ≡ little (field 4 4 body)
     → b ≡ canLend (eqb (length body) 8) n m (length t) (length r) → b ≡ false → Plays (brokenTurn t r) t r x x′ a → Plays (openTurn body t r) t r x x′ a
@@ -119,7 +98,7 @@ plant-plays body t r p q x x′ n m e b a l s hn hm hb h hp hq ha hl w hs =
     let k : plantIf n m body t r ≡ plantTurn body t r = rw (hn, hm) in
     let d : plantOn n m body t r ≡ plantIf n m body t r = rw (sym hb ∙ h) in
     let v : turn (goesOn l n m) (p ++ drop n t) (q ++ drop m r) (answerLine (ascii "plant") a) ≡ plantOn n m body t r = rw (ha, hl, hp, hq, i, j) in
-    plays-as (v ∙ d ∙ k) (plays-answer (omega arith) hs (still n p t (ap length hp ∙ field-length 996 _ body ∙ i)) (still m q r (ap length hq ∙ field-length (996 + n) _ body ∙ j)) w)
+    plays-as (v ∙ d ∙ k) (plays (omega arith) hs (record { table = still n p t (ap length hp ∙ field-length 996 _ body ∙ i); roll = still m q r (ap length hq ∙ field-length (996 + n) _ body ∙ j) }) w)
 
 pub plant-broken : (body t r x x′ : List ℕ) (n m : ℕ) (b : Bool) (a : Ran) → n ≡ little (field 988 4 body) → m ≡ little (field 992 4 body)
     → b ≡ canLend (eqb (length body) (996 + n + m)) n m (length t) (length r) → b ≡ false → Plays (brokenTurn t r) t r x x′ a → Plays (plantTurn body t r) t r x x′ a
@@ -137,7 +116,7 @@ pub case-plays : (body t r p x x′ : List ℕ) (e : ℕ) (z : State) (a : Answe
 unfolding caseTurn caseOn judgedOf
 case-plays body t r p x x′ e z a s h ha hp hk w hs =
     let v : turn (goesOn (a .ledger) (z .table) (z .roll)) (p ++ drop (z .table) t) r (answerLine (ascii "case") (a .answer)) ≡ caseTurn body t r z = rw (ha, hp) in
-    plays-as v (plays-answer (omega arith) hs (still (z .table) p t (hk ∙ length-take-le (z .table) t (h .table))) (h .roll) w)
+    plays-as v (plays (omega arith) hs (record { table = still (z .table) p t (hk ∙ length-take-le (z .table) t (h .table)); roll = h .roll }) w)
 
 -- B
 pub block-plays : (t r q x x′ : List ℕ) (e : ℕ) (z : State) (a : Answered) (s : State) → Within z t r
@@ -148,4 +127,4 @@ pub block-plays : (t r q x x′ : List ℕ) (e : ℕ) (z : State) (a : Answered)
 unfolding blockTurn blockOn
 block-plays t r q x x′ e z a s h ha hl hq hk w hs =
     let v : turn (goesOn (a .ledger) (z .table) (z .roll)) t (q ++ drop (z .roll) r) (answerLine (ascii "block") (a .answer)) ≡ blockTurn t r z = rw (ha, hl, hq) in
-    plays-as v (plays-answer (omega arith) hs (h .table) (still (z .roll) q r (hk ∙ length-take-le (z .roll) r (h .roll))) w)
+    plays-as v (plays (omega arith) hs (record { table = h .table; roll = still (z .roll) q r (hk ∙ length-take-le (z .roll) r (h .roll)) }) w)

@@ -51,11 +51,11 @@ memoryText t r l =
     ascii "memory " ++ hex (sha256Of t) ++ ascii " " ++ hex (sha256Of r) ++ ascii " " ++ hex (sha256Of (l .tree .nodes)) ++ ascii "\n"
 
 -- A SEAL: its answer, and the bits of a pull that passed. No pull that passes is a NaN, whose bits would be read as 0
-unfoldable pub bitsOf : Float → ℕ
-bitsOf pull = cond (isNan pull) 0 (toBits binary64 pull)
+unfoldable pub pullBits : Float → ℕ
+pullBits pull = cond (isNan pull) 0 (toBits binary64 pull)
 
 unfoldable pub sealedText : Sealed → List ℕ
-sealedText (Passed pull) = answerWords (ascii "seal") (sealAnswer (Passed pull)) ++ ascii " " ++ hex64 (bitsOf pull) ++ ascii "\n"
+sealedText (Passed pull) = answerWords (ascii "seal") (sealAnswer (Passed pull)) ++ ascii " " ++ hex64 (pullBits pull) ++ ascii "\n"
 sealedText BadLimit = answerLine (ascii "seal") (sealAnswer BadLimit)
 sealedText NotFinite = answerLine (ascii "seal") (sealAnswer NotFinite)
 sealedText Outside = answerLine (ascii "seal") (sealAnswer Outside)

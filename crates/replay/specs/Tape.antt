@@ -1,5 +1,5 @@
--- What each entry of a tape leaves and prints. body is the entry's body, t and r are the buffers for the nullifier table and the anchor roll, s is what
--- was kept from the entry before: the ledger, and how many bytes of each buffer are lent to it.
+-- What each entry of a tape leaves and prints. An entry is a kind (1 byte), its body's length (4) and its body. t and r are the buffers for the
+-- nullifier table and the anchor roll, s is what was kept from the entry before: the ledger, and how many bytes of each buffer are lent to it.
 -- Assumes nothing.
 use Prim.Native.Nat.{ℕ, _+_, _≤_}
 use Prim.Native.String.{String}

@@ -17,7 +17,7 @@ ghost use Rattle.text.specs.Decimal.{signed};
 ghost use Rattle.text.specs.Answers.{answerWords, answerLine};
 ghost use Rattle.text.specs.Hex.{hex, hex64};
 ghost use Rattle.text.specs.Pen.{pen, Wrote};
-ghost use Rattle.replay.specs.Looks.{ledgerText, rowLine, rowLines, rowsText, memoryText, bitsOf, sealedText, sealText};
+ghost use Rattle.replay.specs.Looks.{ledgerText, rowLine, rowLines, rowsText, memoryText, pullBits, sealedText, sealText};
 ghost use Rattle.replay.specs.Tape.{nothing as nothingOf, goesOn, canLend, openTurn, plantTurn, caseTurn, blockTurn, lookTurn, bareTurn, nameTurn, entryTurn, nextTurn, lengthOf, longest, Within, Plays};
 use ledger::Answered;
 use ledger::Ledger;
@@ -91,7 +91,7 @@ fn opened(table: &mut [u8], roll: &mut [u8]) -> Answered
 
 // The bits of a pull that passed, which is no NaN: a NaN's bits cannot be read.
 fn bits_of(pull: f64) -> u64
-    ensures { λ r. ⌜ r ≡ bitsOf pull ⌝ }
+    ensures { λ r. ⌜ r ≡ pullBits pull ⌝ }
 {
     if pull != pull {
         return 0;
@@ -189,7 +189,7 @@ fn put_memory(out: &mut [u8], table: &[u8], roll: &[u8], l: Ledger) -> usize
 
 // A seal that passed: its pull behind the answer.
 fn put_passed(out: &mut [u8], a: Answer, pull: f64) -> usize
-    ensures { λ r. ⌜ Wrote 64 (answerWords (ascii "seal") a ++ ascii " " ++ hex64 (bitsOf pull) ++ ascii "\n") (pen (now (out .entry)) 0) (pen (now (out .exit)) r) ⌝ }
+    ensures { λ r. ⌜ Wrote 64 (answerWords (ascii "seal") a ++ ascii " " ++ hex64 (pullBits pull) ++ ascii "\n") (pen (now (out .entry)) 0) (pen (now (out .exit)) r) ⌝ }
 {
     let answered = text::put_answer(out, 0, b"seal", a);
     let spaced = text::put(out, answered, b" ");

@@ -4,13 +4,13 @@ use mathlib.Core.Bool.{Bool, true, false, cond, not}
 use lib.Dec.{T}
 use lib.Ieee.{isNan}
 use lib.Ieee.Compare.{differs-from-itself}
-use Rattle.replay.specs.Looks.{bitsOf}
+use Rattle.replay.specs.Looks.{pullBits}
 use Rattle.seal.proofs.Bits.{same-no-nan}
 use Rattle.replay.proofs.bits_of.Statement.{statement}
 use Rattle.replay.proofs.bits_of.Tie as tie
 
 returns : tie.Need-returns
-unfolding isNan bitsOf
+unfolding isNan pullBits
 returns c =
     let x = c .before .args .pull in
     rw (differs-from-itself x (subst T (sym (c .if1 .taken)) tt)) refl
@@ -23,7 +23,7 @@ kept true n h = absurd h
 kept false n h = refl
 
 returns-2 : tie.Need-returns-2
-unfolding bitsOf
+unfolding pullBits
 returns-2 c = kept (isNan (c .before .args .pull)) _ (float-to-bits-result c)
 
 pub bits-of-spec : {M : Type 1} → statement M

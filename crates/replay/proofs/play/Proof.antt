@@ -1,8 +1,7 @@
-use mathlib.Core.Path.{_≡_, refl, ap}
-use native.Mathlib.Omega.{arith}
+use mathlib.Core.Path.{_≡_, refl}
 use lib.ListN.{length}
-use Rattle.replay.specs.declared.State.{State}
 use Rattle.replay.specs.Tape.{Within}
+use Rattle.replay.proofs.TurnLaws.{within-as, nowhere}
 use borrow.Author.Needs.{needs}
 use Rattle.replay.proofs.play.Statement.{statement}
 use Rattle.replay.proofs.play.Tie as tie
@@ -15,7 +14,7 @@ abbrev μ-loop : tie.MeasureT-loop
 μ-loop buffer₀ table₀ roll₀ out₀ state₀ turns₀ buffer table roll out state turns = turns
 
 loop-holds : tie.Need-loop-holds Inv-loop μ-loop
-loop-holds c = (refl, (refl, (refl, (refl, record { table = omega (arith, ap (λ (z : State). z .table) (c .nothing .ensures)); roll = omega (arith, ap (λ (z : State). z .roll) (c .nothing .ensures)) }))))
+loop-holds c = (refl, (refl, (refl, (refl, within-as (c .nothing .ensures) (nowhere _ _ _)))))
 
 pub play-spec : {M : Type 1} → statement M
 play-spec =

@@ -1,9 +1,10 @@
 use mathlib.Core.Path.{_≡_, sym, ap}
 use native.Mathlib.Omega.{arith}
 use lib.Seq.{length-take-le}
+use Rattle.text.proofs.PenLaws.{start}
 use Rattle.replay.specs.declared.Next.{Next}
 use Rattle.replay.specs.Tape.{nextTurn, lengthOf}
-use Rattle.replay.proofs.TurnLaws.{plays-as, plays-broken, plays-end}
+use Rattle.replay.proofs.TurnLaws.{plays-as, nowhere, plays, plays-broken}
 use borrow.Author.Needs.{needs}
 use Rattle.replay.proofs.play_next.Statement.{statement}
 use Rattle.replay.proofs.play_next.Tie as tie
@@ -21,7 +22,7 @@ unfolding nextTurn
 returns-2 c =
     let n = c .before in
     let s = n .before .before .before .before .before .before in
-    plays-as (ap (λ (y : Next). nextTurn y (s .args .buffer .now) (s .args .table .now) (s .args .roll .now) (s .args .state)) (sym (n .enum-told .given .1))) (plays-end (c .nothing .ensures))
+    plays-as (ap (λ (y : Next). nextTurn y (s .args .buffer .now) (s .args .table .now) (s .args .roll .now) (s .args .state)) (sym (n .enum-told .given .1))) (plays (omega arith) (c .nothing .ensures) (nowhere _ _ _) (start _))
 
 returns-3 : tie.Need-returns-3
 unfolding nextTurn

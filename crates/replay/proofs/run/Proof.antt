@@ -1,6 +1,7 @@
+use mathlib.Core.Path.{refl}
 use native.Mathlib.Omega.{arith}
 use Rattle.replay.proofs.KindLaws.{entry-open, entry-plant, entry-case, entry-seal, entry-no-seal, entry-name, entry-bare, entry-other}
-use Rattle.replay.proofs.TurnLaws.{plays-as, plays-text, plays-broken}
+use Rattle.replay.proofs.TurnLaws.{plays-as, plays, plays-broken}
 use borrow.Author.Needs.{needs}
 use Rattle.replay.proofs.run.Statement.{statement}
 use Rattle.replay.proofs.run.Tie as tie
@@ -29,7 +30,7 @@ returns-4 c =
     let l = k .before .before in
     let i = l .before in
     let s = i .before .before .before .before .before .before .before .before in
-    plays-as (entry-seal _ _ _ _ _ (i .if4 .taken) (l .if5 .taken)) (plays-text (omega arith) (s .pre) (k .put-seal .ensures))
+    plays-as (entry-seal _ _ _ _ _ (i .if4 .taken) (l .if5 .taken)) (plays (omega arith) refl (s .pre) (k .put-seal .ensures))
 
 returns-5 : tie.Need-returns-5
 returns-5 c =

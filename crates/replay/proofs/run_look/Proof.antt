@@ -1,8 +1,8 @@
-use mathlib.Core.Path.{sym}
+use mathlib.Core.Path.{refl, sym}
 use native.Mathlib.Omega.{arith}
 use lib.Seq.{length-take-le}
 use Rattle.replay.proofs.KindLaws.{look-ledger, look-rows, look-memory, look-other}
-use Rattle.replay.proofs.TurnLaws.{plays-as, plays-text, plays-broken}
+use Rattle.replay.proofs.TurnLaws.{plays-as, plays, plays-broken}
 use borrow.Author.Needs.{needs}
 use Rattle.replay.proofs.run_look.Statement.{statement}
 use Rattle.replay.proofs.run_look.Tie as tie
@@ -12,21 +12,21 @@ returns c =
     let k = c .before .before in
     let i = k .before .before in
     let s = i .before .before .before .before in
-    plays-as (look-ledger _ _ _ _ (i .if1 .taken)) (plays-text (omega arith) (s .pre) (k .put-ledger .ensures))
+    plays-as (look-ledger _ _ _ _ (i .if1 .taken)) (plays (omega arith) refl (s .pre) (k .put-ledger .ensures))
 
 returns-2 : tie.Need-returns-2
 returns-2 c =
     let k = c .before .before in
     let i = k .before .before .before .before in
     let s = i .before .before .before .before .before in
-    plays-as (look-rows _ _ _ _ (i .if2 .taken)) (plays-text (omega arith) (s .pre) (k .put-all-rows .ensures))
+    plays-as (look-rows _ _ _ _ (i .if2 .taken)) (plays (omega arith) refl (s .pre) (k .put-all-rows .ensures))
 
 returns-3 : tie.Need-returns-3
 returns-3 c =
     let k = c .before .before in
     let i = k .before .before .before .before in
     let s = i .before .before .before .before .before .before in
-    plays-as (look-memory _ _ _ _ (i .if3 .taken)) (plays-text (omega arith) (s .pre) (k .put-memory .ensures))
+    plays-as (look-memory _ _ _ _ (i .if3 .taken)) (plays (omega arith) refl (s .pre) (k .put-memory .ensures))
 
 returns-4 : tie.Need-returns-4
 returns-4 c =

@@ -1,6 +1,7 @@
+use mathlib.Core.Path.{refl}
 use native.Mathlib.Omega.{arith}
 use Rattle.replay.proofs.KindLaws.{name-short, name-long}
-use Rattle.replay.proofs.TurnLaws.{plays-as, plays-text, plays-broken}
+use Rattle.replay.proofs.TurnLaws.{plays-as, plays, plays-broken}
 use borrow.Author.Needs.{needs}
 use Rattle.replay.proofs.run_name.Statement.{statement}
 use Rattle.replay.proofs.run_name.Tie as tie
@@ -10,7 +11,7 @@ returns c =
     let k = c .before .before in
     let i = k .before .before in
     let s = i .before .before .before .before .before in
-    plays-as (name-short _ _ _ _ (i .if1 .taken)) (plays-text (omega (arith, i .if1 .taken)) (s .pre) (k .put-name-line .ensures))
+    plays-as (name-short _ _ _ _ (i .if1 .taken)) (plays (omega (arith, i .if1 .taken)) refl (s .pre) (k .put-name-line .ensures))
 
 returns-2 : tie.Need-returns-2
 returns-2 c =

@@ -1,7 +1,5 @@
-use mathlib.Core.Path.{ap}
-use native.Mathlib.Omega.{arith}
 use Rattle.text.proofs.PenLaws.{rendered}
-use Rattle.replay.specs.declared.State.{State}
+use Rattle.replay.proofs.TurnLaws.{within-as, nowhere}
 use borrow.Author.Needs.{needs}
 use Rattle.replay.proofs.turn.Statement.{statement}
 use Rattle.replay.proofs.turn.Tie as tie
@@ -12,7 +10,7 @@ returns c =
     p .play-next .ensures .within
 
 returns-2 : tie.Need-returns-2
-returns-2 c = record { table = omega (arith, ap (λ (z : State). z .table) (c .nothing .ensures)); roll = omega (arith, ap (λ (z : State). z .roll) (c .nothing .ensures)) }
+returns-2 c = within-as (c .nothing .ensures) (nowhere _ _ _)
 
 slice-reshare-prefix-print : tie.Need-slice-reshare-prefix-print
 slice-reshare-prefix-print c =

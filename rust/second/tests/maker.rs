@@ -33,10 +33,10 @@ fn wanted_answers() -> Vec<(&'static str, Answer)> {
 }
 
 #[test]
-fn a_tape_of_600_entries_reaches_everything_in_2_megabytes() {
+fn a_tape_of_600_entries_reaches_everything_in_2500_kilobytes() {
     for seed in SEEDS {
         let tape = make_tape(seed, 600);
-        assert!(tape.bytes.len() < 2_000_000, "seed {seed}");
+        assert!(tape.bytes.len() < 2_500_000, "seed {seed}");
         for (kind, answer) in wanted_answers() {
             let times = tape.coverage.times(kind, answer);
             assert!(times > 0, "seed {seed}: {kind} {answer}");

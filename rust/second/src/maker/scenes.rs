@@ -697,7 +697,10 @@ fn beyond_the_limits(maker: &mut Maker) {
         maker.purse = Purse::from_elsewhere(&mut maker.random, &[Amount(5), Amount(6)]);
         let rows = rows_with(&mut maker.random, &[], spent);
         let ledger = ledger_from_elsewhere(maker, &rows, MAX_TABLE_BYTES, 3);
-        maker.plant(&ledger, &format!("{spent} nullifiers, more rows lent than the limit"));
+        maker.plant(
+            &ledger,
+            &format!("{spent} nullifiers, more rows lent than the limit"),
+        );
         ask_and_close(maker);
     }
     for anchors in [MAX_ANCHORS - 1, MAX_ANCHORS, MAX_ANCHORS + ROWS_BEYOND] {
@@ -708,7 +711,10 @@ fn beyond_the_limits(maker: &mut Maker) {
         let mut ledger = ledger_from_elsewhere(maker, &rows, table, anchors.min(MAX_ANCHORS));
         ledger.anchors = anchors as u64;
         ledger.roll.resize(MAX_ROLL_BYTES, 1);
-        maker.plant(&ledger, &format!("{anchors} anchors, more rows lent than the limit"));
+        maker.plant(
+            &ledger,
+            &format!("{anchors} anchors, more rows lent than the limit"),
+        );
         ask_and_close(maker);
     }
 }

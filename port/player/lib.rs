@@ -1,0 +1,112 @@
+//! What every module of the port stands on: the chosen variant, and memory for the two toolchain crates that
+//! talk to the system.
+#![allow(warnings, arithmetic_overflow, unconditional_panic)]
+use std::cell::{Cell, RefCell};
+use std::fmt::{self, Write};
+
+pub mod calls;
+pub mod draw;
+pub mod host_run;
+pub use draw::{Dice, Draw};
+include!("modules.rs");
+
+thread_local! {
+    static VARIANT: Cell<u32> = const { Cell::new(0) };
+    static TURNS: Cell<u32> = const { Cell::new(0) };
+}
+
+/// The number of the variant that is played; 0 is the code as it is.
+#[inline(always)]
+pub fn variant() -> u32 {
+    VARIANT.get()
+}
+
+/// Chooses a variant for one run.
+pub fn choose(number: u32) {
+    VARIANT.set(number);
+    TURNS.set(0);
+}
+
+/// Counts the turns of all loops that nothing else bounds: whoever makes too many does not end.
+pub fn turn() -> bool {
+    TURNS.set(TURNS.get() + 1);
+    assert!(TURNS.get() < 20_000_000, "it does not end");
+    true
+}
+
+/// A call with drawn arguments: the function's name, whether it is public, and the call, which tells what was
+/// given, what came back and what the lent memory is then.
+pub type Call = (&'static str, bool, fn(&mut Dice) -> (Told, Told, Told));
+
+/// A value's beginning, to be read, and a hash of all of it, to be compared.
+#[derive(Clone, PartialEq)]
+pub struct Told {
+    pub start: String,
+    hash: u64,
+}
+
+impl Write for Told {
+    fn write_str(&mut self, text: &str) -> fmt::Result {
+        for byte in text.bytes() {
+            self.hash = (self.hash ^ u64::from(byte)).wrapping_mul(0x100_0000_01b3);
+        }
+        if self.start.len() < 60 {
+            self.start.push_str(text);
+        }
+        Ok(())
+    }
+}
+
+pub fn told(value: &impl fmt::Debug) -> Told {
+    let mut told = Told { start: String::new(), hash: 0xcbf2_9ce4_8422_2325 };
+    write!(told, "{value:?}").expect("memory takes all");
+    told
+}
+
+pub mod libc {
+    pub const STDIN_FILENO: i32 = 0;
+    pub const STDOUT_FILENO: i32 = 1;
+}
+
+/// Standard input and output in memory.
+pub mod io {
+    use super::*;
+
+    thread_local! {
+        static INPUT: RefCell<Vec<u8>> = const { RefCell::new(Vec::new()) };
+        static READ: Cell<usize> = const { Cell::new(0) };
+        static OUTPUT: RefCell<Vec<u8>> = const { RefCell::new(Vec::new()) };
+    }
+
+    /// Plays a program on an input, and gives what it printed.
+    pub fn play(program: fn(), input: &[u8]) -> Vec<u8> {
+        INPUT.replace(input.to_vec());
+        READ.set(0);
+        OUTPUT.take();
+        program();
+        OUTPUT.take()
+    }
+
+    pub fn read_full(_: i32, buffer: &mut [u8]) -> usize {
+        INPUT.with_borrow(|input| {
+            let rest = &input[READ.get()..];
+            let n = buffer.len().min(rest.len());
+            buffer[..n].copy_from_slice(&rest[..n]);
+            READ.set(READ.get() + n);
+            n
+        })
+    }
+
+    pub fn write_all(_: i32, bytes: &[u8]) -> bool {
+        OUTPUT.with_borrow_mut(|output| output.extend_from_slice(bytes));
+        true
+    }
+
+    pub fn print_decimal(to: i32, n: u64) -> bool {
+        write_all(to, format!("{n}").as_bytes())
+    }
+
+    pub fn print_hex(to: i32, n: u64, width: usize) -> bool {
+        write_all(to, format!("{n:0width$x}").as_bytes())
+    }
+}

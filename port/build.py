@@ -41,6 +41,7 @@ class Port:
 
     def __init__(self):
         self.crates = translate.crates_of(ROOT)
+        self.programs = [c for c in self.crates if os.path.exists(os.path.join(ROOT, "crates", c, "src", "main.rt"))]
         self.texts = {c: translate.sources_of(ROOT, c) for c in self.crates}
         self.items = {(c, f): translate.items_of(t) for c in self.crates for f, t in self.texts[c].items()}
         self.variants = {}  # by number: the crate, and for each changed file its bodies and what is added
@@ -54,7 +55,7 @@ class Port:
     def edges_of(self, crate):
         """The numbers that stand in a crate's code."""
         text = "\n".join(i.body for (c, _), items in self.items.items() if c == crate for i in items)
-        found = {int(n.replace("_", ""), 0) for n in re.findall(r"(?<![\w.])(?:0x[0-9a-f_]+|[1-9][\d_]*|0)(?![\w.]*x)", text)}
+        found = {int(n.replace("_", ""), 0) for n in re.findall(r"(?<![\w.])(?:0x[0-9a-f_]+|[1-9][\d_]*)", text)}
         return sorted(n for n in found if n < 1 << 64)
 
     def bodies_of(self, crate, file):
@@ -70,17 +71,16 @@ class Port:
     def write(self):
         """Writes the crate; gives for each file the variant of each line."""
         owners, modules = {}, []
-        programs = [c for c in self.crates if os.path.exists(os.path.join(ROOT, "crates", c, "src", "main.rt"))]
         for (crate, file), items in self.items.items():
             path = f"src/{crate}/{file}.rs" if file else f"src/{crate}.rs"
-            text, owners[path] = translate.rust_of(crate, items, *self.bodies_of(crate, file))
+            text, owners[path] = translate.rust_of(crate, self.texts[crate], items, *self.bodies_of(crate, file))
             put(path, text)
-            if crate not in programs:
+            if crate not in self.programs:
                 modules.append(f'("{crate}", &{self.edges_of(crate)}, {crate}{"::" + file if file else ""}::CALLS),')
         put(
             "src/modules.rs",
             "".join(f"pub mod {c};\n" for c in self.crates)
-            + f"pub const PROGRAMS: &[(&str, fn())] = &[{', '.join(f'({json.dumps(p)}, {p}::main)' for p in programs)}];\n"
+            + "pub const PROGRAMS: &[(&str, fn())] = &[\n" + "".join(f'("{p}", {p}::main),\n' for p in self.programs) + "];\n"
             + "pub const MODULES: &[(&str, &[u64], &[Call])] = &[\n" + "\n".join(modules) + "\n];\n",
         )
         for name in os.listdir(os.path.join(HERE, "player")):
@@ -124,7 +124,8 @@ def play(waiting):
         with tempfile.TemporaryFile() as asked:
             asked.write("".join(f"{number} {crate}\n" for number, crate in waiting).encode())
             asked.seek(0)
-            player = subprocess.Popen([os.path.join(FOLDER, "target", "release", "port"), ROOT], stdin=asked, stdout=subprocess.PIPE, bufsize=0)
+            command = [os.path.join(FOLDER, "target", "release", "port"), ROOT]
+            player = subprocess.Popen(command, stdin=asked, stdout=subprocess.PIPE, bufsize=0)
             yield from answers_of(player, waiting)
 
 
@@ -142,16 +143,15 @@ def put(path, text):
 
 def errors_of(command, owners):
     """The variants whose lines do not compile, and all other errors."""
-    run = subprocess.run(
-        ["cargo", command, "--release", "--offline", "--quiet", "--message-format=json"], cwd=FOLDER, capture_output=True, text=True
-    )
+    command = ["cargo", command, "--release", "--offline", "--quiet", "--message-format=json"]
+    run = subprocess.run(command, cwd=FOLDER, capture_output=True, text=True)
     wrong, others = set(), []
     for line in run.stdout.split("\n"):
         message = json.loads(line).get("message") if line.startswith("{") else None
         if not isinstance(message, dict) or message["level"] != "error" or not message["spans"]:
             continue
         spans = [s for s in message["spans"] if s["is_primary"]]
-        numbers = {owners.get(s["file_name"], {})[s["line_start"] - 1] if s["file_name"] in owners else 0 for s in spans}
+        numbers = {owners[s["file_name"]][s["line_start"] - 1] if s["file_name"] in owners else 0 for s in spans}
         if numbers == {0}:
             others.append(message["rendered"])
         wrong |= numbers - {0}

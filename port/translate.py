@@ -10,7 +10,6 @@ import re
 from dataclasses import dataclass
 
 FUNCTION = re.compile(r'(\s*)(pub )?(?:extern "C" )?fn (\w+)')
-TYPE = re.compile(r"(?:pub )?(struct|enum) (\w+)")
 CONSTANT = re.compile(r"(?:pub )?const (\w+)\b")
 
 
@@ -74,9 +73,9 @@ def items_of(text):
             while not lines[end].endswith("{"):
                 end += 1
             last = next(i for i in range(end, len(lines)) if lines[i] == m[1] + "}")
-            head = [x for x in lines[at : end + 1] if x != "requires"]
-            name = owner + m[3]
-            items.append(Item(name, "\n".join(head), "\n".join(lines[end + 1 : last]), bool(m[2]), "requires" in lines[at:end]))
+            head = "\n".join(x for x in lines[at : end + 1] if x != "requires")
+            body = "\n".join(lines[end + 1 : last])
+            items.append(Item(owner + m[3], head, body, bool(m[2]), "requires" in lines[at:end]))
             at = last + 1
             continue
         impl = re.match(r"impl (\w+) \{", line)
@@ -148,29 +147,25 @@ def drawn_types(text):
 
 
 def call_of(item):
-    """A call of a function on drawn arguments: what was lent, what came back, what the lent memory is then."""
-    inside = item.head[item.head.index("(") + 1 : item.head.rindex(")")]
-    lets, given, after = [], [], []
-    for number, parameter in enumerate(split_list(inside.split(") ->")[0])):
-        name, _, kind = parameter.removeprefix("mut ").partition(": ")
-        kind = kind or "Self"
+    """A call of a function on drawn arguments, which tells what was given, what came back and what is left."""
+    inside = item.head[item.head.index("(") + 1 :].split(") ->")[0].rsplit(")", 1)[0]
+    lets, given = "", []
+    for number, parameter in enumerate(split_list(inside)):
+        kind = parameter.partition(": ")[2] or item.name.split("::")[0]
         lent = re.match(r"&(?:'a )?(mut )?", kind)
-        kind = kind[lent.end() :] if lent else kind
-        kind = re.sub(r"^\[([^;]*)\]$", r"Vec<\1>", kind)
-        kind = item.name.split("::")[0] if kind == "Self" else kind
-        lets.append(f"let mut a{number}: {kind} = d.draw();")
-        given.append(("&mut " if lent[1] else "&") + f"a{number}" if lent else f"a{number}")
-        after.append(f"a{number}")
-    names = ", ".join(f"&{a}" for a in after)
-    return (
-        f'("{item.name}", {str(item.public).lower()}, |d| {{ {" ".join(lets)} let lent = crate::told(&({names}{"," if names else ""}));'
-        f' let r = crate::told(&{item.name}({", ".join(given)})); (lent, r, crate::told(&({names}{"," if names else ""}))) }}),'
-    )
+        kind = re.sub(r"^\[([^;]*)\]$", r"Vec<\1>", kind[lent.end() :]) if lent else kind
+        lets += f"let mut a{number}: {kind} = d.draw(); "
+        given.append(f"&{lent[1] or ''}a{number}" if lent else f"a{number}")
+    told = f"crate::told(&({''.join(f'&a{n}, ' for n in range(len(given)))}))"
+    result = f"crate::told(&{item.name}({', '.join(given)}))"
+    return f'("{item.name}", {str(item.public).lower()}, |d| {{ {lets}let lent = {told}; let r = {result}; (lent, r, {told}) }}),'
 
 
-def plain(crate, text):
-    """Text of a source as Rust: all is public, paths start at the port, and loops count their turns."""
+def plain(crate, modules, text):
+    """Text of a crate, which has some modules, as Rust: all is public, paths start at the port, loops count their turns."""
     text = re.sub(r"\bcrate::", f"crate::{crate}::", text)
+    for module in modules:
+        text = re.sub(rf"^use {module or '-'}::", f"use crate::{crate}::{module}::", text, flags=re.M)
     text = re.sub(r"^use (?!crate)(\w+)::", r"use crate::\1::", text, flags=re.M)
     text = text.replace("std::num::wrapping_add_u64(", "u64::wrapping_add(")
     text = re.sub(r"^(\s*)while (.*) \{$", r"\1while crate::turn() && (\2) {", text, flags=re.M)
@@ -179,7 +174,7 @@ def plain(crate, text):
     return re.sub(r"^pub (struct|enum) ", r"#[derive(Clone, Copy, Debug)]\npub \1 ", text, flags=re.M)
 
 
-def rust_of(crate, items, variants, added):
+def rust_of(crate, modules, items, variants, added):
     """A module's text, and for each line of it the variant that it belongs to."""
     lines, owners = [], []
 
@@ -189,15 +184,15 @@ def rust_of(crate, items, variants, added):
 
     put("use crate::*;")
     for item in items:
-        put(plain(crate, item.head))
+        put(plain(crate, modules, item.head))
         if not item.is_function:
             continue
         bodies = variants.get(item.name, {})
         put("match crate::variant() {")
         for number, body in bodies.items():
-            put(f"{number} => {{\n{plain(crate, body)}\n}}", number)
-        put(f"_ => {{\n{plain(crate, item.body)}\n}} }} }}")
-    put(plain(crate, added))
+            put(f"{number} => {{\n{plain(crate, modules, body)}\n}}", number)
+        put(f"_ => {{\n{plain(crate, modules, item.body)}\n}} }} }}")
+    put(plain(crate, modules, added))
     put(drawn_types("\n".join(i.head for i in items if not i.name)))
     calls = [call_of(i) for i in items if i.is_function and not i.asks and not i.name == "main"]
     put("pub const CALLS: &[crate::Call] = &[\n" + "\n".join(calls) + "\n];")

@@ -55,18 +55,29 @@ def conditions(text):
 
 def statements(text):
     """A statement of one line left out."""
-    for m in re.finditer(r"^ *(?!let |\]|\)|\}).*;\n", text + "\n", re.M):
+    for m in re.finditer(r"^ *(?!let |const |\]|\)|\}).*;\n", text + "\n", re.M):
         if text[: m.start()].rstrip()[-1:] in ("", ";", "{", "}"):
             yield m.span(), "\n"
 
 
+def changed_lines(body, changed):
+    """The lines that differ, before and after; where the same line stands more than once, which of them it is."""
+    old, new = body.split("\n"), changed.split("\n")
+    start = next(i for i, pair in enumerate(zip(old, new)) if pair[0] != pair[1])
+    kept = 0
+    while kept < min(len(old), len(new)) - start - 1 and old[-1 - kept] == new[-1 - kept]:
+        kept += 1
+    before, after = (" ".join(x.strip() for x in lines[start : len(lines) - kept]) for lines in (old, new))
+    alike = [i for i, line in enumerate(old) if line == old[start]]
+    return before, after, f" (the {alike.index(start) + 1}. of {len(alike)})" if len(alike) > 1 else ""
+
+
 def variants_of(body):
-    """The changed bodies: the old piece, the new piece, its line in the body, the whole."""
+    """The changed bodies: the lines before, the lines after, which of equal lines, and the whole."""
     seen = {body}
     for kind in (numerals, operators, words, arguments, conditions, statements):
         for (start, end), new in kind(body):
             changed = body[:start] + new + body[end:]
             if changed not in seen:
                 seen.add(changed)
-                line = body.count("\n", 0, start)
-                yield body[start:end].strip() or "!", new.strip(), body.split("\n")[line].strip(), changed
+                yield *changed_lines(body, changed), changed

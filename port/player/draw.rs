@@ -45,7 +45,9 @@ impl Dice {
             0 => self.below(5),
             1 => most - self.below(3),
             2 => (1u64 << self.below(u64::from(bits))).wrapping_add(near),
-            3 | 4 if !self.edges.is_empty() => self.edges[self.below(self.edges.len() as u64) as usize].wrapping_add(near),
+            3 | 4 if !self.edges.is_empty() => {
+                self.edges[self.below(self.edges.len() as u64) as usize].wrapping_add(near)
+            }
             5 => (self.length as u64).wrapping_sub(self.below(40)),
             _ => self.bits(),
         };
@@ -55,7 +57,11 @@ impl Dice {
     /// A length of lent memory.
     fn length(&mut self) -> usize {
         let n = self.number(16);
-        if n <= 5000 || self.below(40) == 0 { n as usize } else { self.below(100) as usize }
+        if n <= 5000 || self.below(40) == 0 {
+            n as usize
+        } else {
+            self.below(100) as usize
+        }
     }
 
     /// A die for one list: that of the list before, or a new one.
@@ -107,7 +113,20 @@ impl Draw for bool {
 
 impl Draw for f64 {
     fn draw(d: &mut Dice) -> f64 {
-        let edges = [0.0, -0.0, 1.0, -1.0, 0.5, 2.0, f64::MAX, f64::MIN, f64::MIN_POSITIVE, f64::INFINITY, f64::NEG_INFINITY, f64::NAN];
+        let edges = [
+            0.0,
+            -0.0,
+            1.0,
+            -1.0,
+            0.5,
+            2.0,
+            f64::MAX,
+            f64::MIN,
+            f64::MIN_POSITIVE,
+            f64::INFINITY,
+            f64::NEG_INFINITY,
+            f64::NAN,
+        ];
         match d.below(3) {
             0 => f64::from_bits(d.bits()),
             _ => edges[d.below(edges.len() as u64) as usize],

@@ -17,7 +17,9 @@ impl Script {
     /// A tape's entries and a tray's bags, each up to the end or to where it breaks.
     pub fn new(tape: &[u8], tray: &[u8]) -> Script {
         let (mut script, mut rest) = (Script { tape: Vec::new(), bags: Vec::new() }, tape);
-        while let Some((kind, (body, next))) = rest.split_first().and_then(|(kind, after)| Some((kind, counted(after)?))) {
+        while let Some((kind, (body, next))) =
+            rest.split_first().and_then(|(kind, after)| Some((kind, counted(after)?)))
+        {
             script.tape.push((*kind, body.to_vec()));
             rest = next;
         }
@@ -33,7 +35,8 @@ impl Script {
     fn good_case(&self) -> &[u8] {
         let fresh = Memory::opened(&SECOND, 64, 32);
         let cases = self.bags.iter().filter_map(|bag| read_bag(bag)).flat_map(|bag| bag.cases);
-        let is_good = |case: &&[u8]| (SECOND.judge)(case, &mut fresh.ledger.clone(), &mut fresh.table.clone(), &fresh.roll) == 0;
+        let is_good =
+            |case: &&[u8]| (SECOND.judge)(case, &mut fresh.ledger.clone(), &mut fresh.table.clone(), &fresh.roll) == 0;
         cases.into_iter().find(is_good).expect("a bag with a good case")
     }
 }
@@ -154,7 +157,8 @@ impl Run<'_> {
                 }
                 b'C' => {
                     let later = script.tape[index..].iter().take(index % 8);
-                    let cases: Vec<&[u8]> = later.take_while(|entry| entry.0 == b'C').map(|entry| &entry.1[..]).collect();
+                    let cases: Vec<&[u8]> =
+                        later.take_while(|entry| entry.0 == b'C').map(|entry| &entry.1[..]).collect();
                     self.bag(&write_bag(&[0; 25], &cases), [1.0, 0.0], &mut m.clone());
                     let seal = seals.next().expect("a tape with seals");
                     self.bag(&write_bag(&seal[16..], &cases), [0, 8].map(|at| float_at(seal, at)), &mut m.clone());
@@ -191,7 +195,9 @@ impl Run<'_> {
 
     /// Tables and rolls of more rows than a ledger may use, and counts at both sides of the limit.
     fn limits(&mut self, case: &[u8]) {
-        for (table, used) in [2047, 2048, 2049, 2051, 4096].iter().flat_map(|t| [2044, 2046, 2048, 2050].map(|u| (*t, u))) {
+        for (table, used) in
+            [2047, 2048, 2049, 2051, 4096].iter().flat_map(|t| [2044, 2046, 2048, 2050].map(|u| (*t, u)))
+        {
             let mut m = Memory::planted(&rising(used), table, 1, 2);
             self.judge(case, &mut m.clone());
             self.close(&mut m);
@@ -237,7 +243,9 @@ impl Run<'_> {
     /// Tallies at the ends of their counts, and day lists with rows before, at and past the end.
     fn books(&mut self) {
         let counts = [0, 1, 258, u32::MAX - 1, u32::MAX];
-        for (seen, passed, refused) in counts.iter().flat_map(|a| counts.iter().flat_map(move |b| counts.map(|c| (*a, *b, c)))) {
+        for (seen, passed, refused) in
+            counts.iter().flat_map(|a| counts.iter().flat_map(move |b| counts.map(|c| (*a, *b, c))))
+        {
             for answer in [0, 1, 256, 264] {
                 let mut tally = [seen, passed, refused].map(u32::to_le_bytes).concat();
                 let answer = (self.calls.tally)(&mut tally, answer);

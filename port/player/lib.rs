@@ -66,9 +66,10 @@ pub fn told(value: &impl fmt::Debug) -> Told {
 pub mod libc {
     pub const STDIN_FILENO: i32 = 0;
     pub const STDOUT_FILENO: i32 = 1;
+    pub const STDERR_FILENO: i32 = 2;
 }
 
-/// Standard input and output in memory.
+/// Standard input and output in memory; what goes elsewhere is dropped.
 pub mod io {
     use super::*;
 
@@ -97,8 +98,10 @@ pub mod io {
         })
     }
 
-    pub fn write_all(_: i32, bytes: &[u8]) -> bool {
-        OUTPUT.with_borrow_mut(|output| output.extend_from_slice(bytes));
+    pub fn write_all(to: i32, bytes: &[u8]) -> bool {
+        if to == libc::STDOUT_FILENO {
+            OUTPUT.with_borrow_mut(|output| output.extend_from_slice(bytes));
+        }
         true
     }
 

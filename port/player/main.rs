@@ -10,6 +10,9 @@ use std::path::Path;
 
 const CALLS_OF_EACH: u64 = 300;
 
+/// A call: the function, whether it is public, and what it was given, gave back and left, if it ended.
+type Called = (&'static str, bool, Option<(Told, Told, Told)>);
+
 /// A program with its stored run.
 struct Stored {
     name: &'static str,
@@ -18,12 +21,12 @@ struct Stored {
     output: Vec<u8>,
 }
 
-/// What a right version says.
+/// What the code as it is says.
 struct Right {
     stored: Vec<Stored>,
     script: Script,
     host: Vec<String>,
-    calls: HashMap<String, Vec<(String, bool, (Told, Told, Told))>>,
+    calls: HashMap<String, Vec<Called>>,
 }
 
 fn read(file: std::path::PathBuf) -> Vec<u8> {
@@ -37,15 +40,23 @@ impl Right {
             .iter()
             .map(|(name, program)| {
                 let folder = crates.join(name);
-                Stored { name, program: *program, input: read(folder.join("stdin")), output: read(folder.join("stdout")) }
+                Stored {
+                    name,
+                    program: *program,
+                    input: read(folder.join("stdin")),
+                    output: read(folder.join("stdout")),
+                }
             })
             .collect();
         stored.sort_by_key(|run| run.input.len());
         let mut script = Script::new(&read(crates.join("replay/stdin")), &read(crates.join("tray/stdin")));
-        let mut samples: Vec<_> = std::fs::read_dir(root.join("samples")).unwrap().map(|file| file.unwrap().path()).collect();
+        let mut samples: Vec<_> =
+            std::fs::read_dir(root.join("samples")).unwrap().map(|file| file.unwrap().path()).collect();
         samples.sort();
         script.bags.extend(samples.into_iter().filter(|file| file.extension().is_some_and(|e| e == "bag")).map(read));
-        STORED.replace(script.tape.iter().filter(|entry| entry.0 == b'C').take(100).map(|entry| entry.1.clone()).collect());
+        STORED.replace(
+            script.tape.iter().filter(|entry| entry.0 == b'C').take(100).map(|entry| entry.1.clone()).collect(),
+        );
         let mut host = Vec::new();
         Run { calls: &SECOND, say: &mut |line| host.push(line) }.play(&script);
         Right { stored, script, host, calls: HashMap::new() }
@@ -55,7 +66,9 @@ impl Right {
     fn told_by(&mut self, number: u32, name: &str) -> Option<String> {
         self.calls.entry(name.to_string()).or_insert_with(|| {
             choose(0);
-            all_calls(name).map(|(call, public, result)| (call, public, result.expect("a call that asks nothing ends"))).collect()
+            let calls: Vec<Called> = all_calls(name).collect();
+            assert!(calls.iter().all(|call| call.2.is_some()), "a call that asks nothing stops");
+            calls
         });
         let stored = self.stored.iter().find_map(|run| {
             choose(number);
@@ -86,6 +99,7 @@ impl Right {
         let mut private = None;
         choose(number);
         for ((call, public, right), (_, _, result)) in self.calls[name].iter().zip(all_calls(name)) {
+            let right = right.as_ref().expect("the code as it is ends");
             let said = match result {
                 Some(result) if result == *right => continue,
                 Some(result) if result.1 == right.1 => format!("leaves {} for {}", result.2.start, right.2.start),
@@ -115,17 +129,17 @@ fn stored_differs(run: &Stored) -> Option<String> {
 }
 
 /// Every call of a crate's functions on the same draws; a call that stops has no result.
-fn all_calls(name: &str) -> impl Iterator<Item = (String, bool, Option<(Told, Told, Told)>)> + '_ {
+fn all_calls(name: &str) -> impl Iterator<Item = Called> + '_ {
     MODULES.iter().filter(move |(module, ..)| *module == name).flat_map(|(_, edges, calls)| {
         calls.iter().flat_map(move |(call, public, run)| {
-            (0..CALLS_OF_EACH).map(move |seed| (call.to_string(), *public, catch_unwind(|| run(&mut Dice::new(seed, edges))).ok()))
+            (0..CALLS_OF_EACH).map(move |seed| (*call, *public, catch_unwind(|| run(&mut Dice::new(seed, edges))).ok()))
         })
     })
 }
 
 fn main() {
     let root = std::env::args().nth(1).expect("the repository's folder");
-    if std::env::var("LOUD").is_err() { std::panic::set_hook(Box::new(|_| {})); }
+    std::panic::set_hook(Box::new(|_| {}));
     let player = std::thread::Builder::new().stack_size(256 << 20).spawn(move || {
         let mut right = Right::new(Path::new(&root));
         for asked in std::io::stdin().lines().map(|line| line.unwrap()) {

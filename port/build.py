@@ -75,8 +75,7 @@ class Port:
             path = f"src/{crate}/{file}.rs" if file else f"src/{crate}.rs"
             text, owners[path] = translate.rust_of(crate, self.texts[crate], items, *self.bodies_of(crate, file))
             put(path, text)
-            if crate not in self.programs:
-                modules.append(f'("{crate}", &{self.edges_of(crate)}, {crate}{"::" + file if file else ""}::CALLS),')
+            modules.append(f'("{crate}", &{self.edges_of(crate)}, {crate}{"::" + file if file else ""}::CALLS),')
         put(
             "src/modules.rs",
             "".join(f"pub mod {c};\n" for c in self.crates)

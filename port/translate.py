@@ -158,7 +158,12 @@ def call_of(item):
         given.append(f"&{lent[1] or ''}a{number}" if lent else f"a{number}")
     told = f"crate::told(&({''.join(f'&a{n}, ' for n in range(len(given)))}))"
     result = f"crate::told(&{item.name}({', '.join(given)}))"
-    return f'("{item.name}", {str(item.public).lower()}, |d| {{ {lets}let lent = {told}; let r = {result}; (lent, r, {told}) }}),'
+    return f'("{item.name}", {str(item.public).lower()}, |d| {{ {lets}let lent = {told}; let r = {result}; [lent, r, {told}] }}),'
+
+
+# A program that reads its input is called on a drawn one.
+MAIN = """("main", true, |d| { let a0: Vec<u8> = d.draw(); let lent = crate::told(&a0);
+let r = crate::told(&crate::io::play(main, &a0)); [lent, r, crate::told(&())] }),"""
 
 
 def plain(crate, modules, text):
@@ -194,6 +199,8 @@ def rust_of(crate, modules, items, variants, added):
         put(f"_ => {{\n{plain(crate, modules, item.body)}\n}} }} }}")
     put(plain(crate, modules, added))
     put(drawn_types("\n".join(i.head for i in items if not i.name)))
-    calls = [call_of(i) for i in items if i.is_function and not i.asks and not i.name == "main"]
+    calls = [call_of(i) for i in items if i.is_function and not i.asks and i.name != "main"]
+    if any("read_full" in i.body for i in items):
+        calls.append(MAIN)
     put("pub const CALLS: &[crate::Call] = &[\n" + "\n".join(calls) + "\n];")
     return "\n".join(lines) + "\n", owners

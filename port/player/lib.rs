@@ -36,7 +36,7 @@ pub fn turn() -> bool {
 
 /// A call with drawn arguments: the function's name, whether it is public, and the call, which tells what was
 /// given, what came back and what the lent memory is then.
-pub type Call = (&'static str, bool, fn(&mut Dice) -> (Told, Told, Told));
+pub type Call = (&'static str, bool, fn(&mut Dice) -> [Told; 3]);
 
 /// A value's beginning, to be read, and a hash of all of it, to be compared.
 #[derive(Clone, PartialEq)]
@@ -79,13 +79,13 @@ pub mod io {
         static OUTPUT: RefCell<Vec<u8>> = const { RefCell::new(Vec::new()) };
     }
 
-    /// Plays a program on an input, and gives what it printed.
-    pub fn play(program: fn(), input: &[u8]) -> Vec<u8> {
+    /// Runs something on an input, and gives its result and what it printed.
+    pub fn play<R>(program: impl FnOnce() -> R, input: &[u8]) -> (R, Vec<u8>) {
         INPUT.replace(input.to_vec());
         READ.set(0);
+        TURNS.set(0);
         OUTPUT.take();
-        program();
-        OUTPUT.take()
+        (program(), OUTPUT.take())
     }
 
     pub fn read_full(_: i32, buffer: &mut [u8]) -> usize {

@@ -3,15 +3,15 @@
 use port::calls::{PORT, SECOND};
 use port::draw::STORED;
 use port::host_run::{Run, Script};
-use port::{choose, io, Dice, Told, MODULES, PROGRAMS};
+use port::{choose, io, told, Dice, Told, MODULES, PROGRAMS};
 use std::collections::HashMap;
 use std::panic::{catch_unwind, AssertUnwindSafe};
 use std::path::Path;
 
 const CALLS_OF_EACH: u64 = 300;
 
-/// A call: the function, whether it is public, and what it was given, gave back and left, if it ended.
-type Called = (&'static str, bool, Option<(Told, Told, Told)>);
+/// A call: the function, whether it is public, and what it was given, gave back, left and printed, if it ended.
+type Called = (&'static str, bool, Option<[Told; 4]>);
 
 /// A program with its stored run.
 struct Stored {
@@ -101,12 +101,14 @@ impl Right {
         for ((call, public, right), (_, _, result)) in self.calls[name].iter().zip(all_calls(name)) {
             let right = right.as_ref().expect("the code as it is ends");
             let said = match result {
-                Some(result) if result == *right => continue,
-                Some(result) if result.1 == right.1 => format!("leaves {} for {}", result.2.start, right.2.start),
-                Some(result) => format!("gives {} for {}", result.1.start, right.1.start),
                 None => "stops".to_string(),
+                Some(result) => {
+                    let mut parts = ["is given", "gives", "leaves", "prints"].iter().zip(result.iter().zip(right));
+                    let Some((word, (new, old))) = parts.find(|(_, (new, old))| new != old) else { continue };
+                    format!("{word} {} for {}", new.start, old.start)
+                }
             };
-            let line = format!("{} {call}{}: {said}", if *public { "call" } else { "private" }, right.0.start);
+            let line = format!("{} {call}{}: {said}", if *public { "call" } else { "private" }, right[0].start);
             if *public {
                 return Some(line);
             }
@@ -118,7 +120,7 @@ impl Right {
 
 /// The first line of a stored run that a variant prints otherwise.
 fn stored_differs(run: &Stored) -> Option<String> {
-    let Ok(output) = catch_unwind(|| io::play(run.program, &run.input)) else {
+    let Ok(((), output)) = catch_unwind(|| io::play(run.program, &run.input)) else {
         return Some(format!("{}: stops", run.name));
     };
     if output == run.output {
@@ -132,7 +134,12 @@ fn stored_differs(run: &Stored) -> Option<String> {
 fn all_calls(name: &str) -> impl Iterator<Item = Called> + '_ {
     MODULES.iter().filter(move |(module, ..)| *module == name).flat_map(|(_, edges, calls)| {
         calls.iter().flat_map(move |(call, public, run)| {
-            (0..CALLS_OF_EACH).map(move |seed| (*call, *public, catch_unwind(|| run(&mut Dice::new(seed, edges))).ok()))
+            (0..CALLS_OF_EACH).map(move |seed| {
+                let ended = catch_unwind(|| io::play(|| run(&mut Dice::new(seed, edges)), &[])).ok();
+                let parts =
+                    ended.map(|([lent, gave, left], text)| [lent, gave, left, told(&String::from_utf8_lossy(&text))]);
+                (*call, *public, parts)
+            })
         })
     })
 }
@@ -144,8 +151,8 @@ fn main() {
         let mut right = Right::new(Path::new(&root));
         for asked in std::io::stdin().lines().map(|line| line.unwrap()) {
             let (number, name) = asked.split_once(' ').expect("a number and a crate");
-            let told = right.told_by(number.parse().unwrap(), name);
-            println!("{number} {}", told.unwrap_or_else(|| "nothing".to_string()).replace('\n', " "));
+            let teller = right.told_by(number.parse().unwrap(), name);
+            println!("{number} {}", teller.unwrap_or_else(|| "nothing".to_string()).replace('\n', " "));
         }
     });
     player.unwrap().join().expect("the code as it is plays to its end");

@@ -130,10 +130,13 @@ impl Run<'_> {
         self.tell("root", answer, &[&root]);
     }
 
+    /// The lent pull is also a NaN that no sum gives, to see that a refusal leaves its very bits.
     fn seal(&mut self, body: &[u8], [gain, offset]: [f64; 2]) {
-        let mut pull = 0.25;
-        let answer = (self.calls.seal)(body, gain, offset, &mut pull);
-        self.tell("seal", answer, &[&pull.to_le_bytes()]);
+        for lent in [0x3fd0_0000_0000_0000, 0x7ff8_0000_0000_0abc] {
+            let mut pull = f64::from_bits(lent);
+            let answer = (self.calls.seal)(body, gain, offset, &mut pull);
+            self.tell("seal", answer, &[&pull.to_bits().to_le_bytes()]);
+        }
     }
 
     fn bag(&mut self, bag: &[u8], [gain, offset]: [f64; 2], m: &mut Memory) {

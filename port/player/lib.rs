@@ -50,9 +50,7 @@ impl Write for Told {
         for byte in text.bytes() {
             self.hash = (self.hash ^ u64::from(byte)).wrapping_mul(0x100_0000_01b3);
         }
-        if self.start.len() < 60 {
-            self.start.push_str(text);
-        }
+        self.start.extend(text.chars().take(60usize.saturating_sub(self.start.len())));
         Ok(())
     }
 }

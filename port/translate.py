@@ -161,7 +161,7 @@ def call_of(item):
     return f'("{item.name}", {str(item.public).lower()}, |d| {{ {lets}let lent = {told}; let r = {result}; [lent, r, {told}] }}),'
 
 
-# A program that reads its input is called on a drawn one.
+# A program that reads its input is called on a drawn one; the functions within are left to its runs.
 MAIN = """("main", true, |d| { let a0: Vec<u8> = d.draw(); let lent = crate::told(&a0);
 let r = crate::told(&crate::io::play(main, &a0)); [lent, r, crate::told(&())] }),"""
 
@@ -199,8 +199,8 @@ def rust_of(crate, modules, items, variants, added):
         put(f"_ => {{\n{plain(crate, modules, item.body)}\n}} }} }}")
     put(plain(crate, modules, added))
     put(drawn_types("\n".join(i.head for i in items if not i.name)))
-    calls = [call_of(i) for i in items if i.is_function and not i.asks and i.name != "main"]
-    if any("read_full" in i.body for i in items):
-        calls.append(MAIN)
+    calls = [call_of(i) for i in items if i.is_function and not i.asks]
+    if any(i.name == "main" for i in items):
+        calls = [MAIN] if any("read_full" in i.body for i in items) else []
     put("pub const CALLS: &[crate::Call] = &[\n" + "\n".join(calls) + "\n];")
     return "\n".join(lines) + "\n", owners

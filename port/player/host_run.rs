@@ -100,6 +100,7 @@ impl Run<'_> {
             let mut fresh = Memory::opened(self.calls, 65_536, 1_024);
             self.bag(bag, [1.0, 0.0], &mut fresh);
         }
+        self.layouts();
         let case = script.good_case();
         self.lengths(case);
         self.limits(case);
@@ -173,6 +174,16 @@ impl Run<'_> {
                 _ => (),
             }
             self.tell("memory", 0, &[&m.ledger, &m.table, &m.roll]);
+        }
+    }
+
+    /// A bag of eight rows with some bits of one byte of its contents turned over.
+    fn layouts(&mut self) {
+        let sound = write_bag(&[0; 25], &[&b"no case"[..]; 7]);
+        for (at, bits) in (0..74).flat_map(|at| [1, 3, 128].map(|bits| (at, bits))) {
+            let mut bag = sound.clone();
+            bag[at] ^= bits;
+            self.bag(&bag, [1.0, 0.0], &mut Memory::opened(self.calls, 64, 32));
         }
     }
 

@@ -14,8 +14,11 @@
  * that belong together: its SNALDREK_LEDGER_BYTES, its nullifier table and its anchor roll. The
  * caller decides how many rows these two have, keeps their lengths the same from call to call, and
  * may copy, store and restore the three as plain bytes. Buffers need no alignment. Buffers lent to
- * one call must not overlap, unless both are only read. No pointer may be null, not even one of
- * length 0.
+ * one call must not overlap, unless both are only read. A pointer may be null where its length is 0.
+ *
+ * FLOATING POINT. The calls that compute with floats, snaldrek_seal and snaldrek_bag, do so in the
+ * processor's default mode, whatever mode they are called in: to the nearest, nothing flushed to zero,
+ * no exception raised. The caller's mode (MXCSR, with all that was noted in it) is the same afterwards.
  *
  * THREADS. Calls may run at the same time on any threads, as long as no buffer that one of them
  * writes (a pointer without const) is lent to another. So each ledger needs a lock of its own, or
@@ -97,7 +100,8 @@ enum snaldrek_buffer {
     SNALDREK_BUFFER_LEDGER = 1,
     SNALDREK_BUFFER_ROOT = 2,
     SNALDREK_BUFFER_REPORT = 3,
-    SNALDREK_BUFFER_TALLY = 4
+    SNALDREK_BUFFER_TALLY = 4,
+    SNALDREK_BUFFER_PULL = 5            /* it is null */
 };
 
 #define SNALDREK_NUMBER(answer) ((unsigned)((answer) & 0xffu))
@@ -132,7 +136,7 @@ uint32_t snaldrek_root(const uint8_t *ledger, size_t ledger_len, uint8_t *root, 
 
 /* Judges a seal's body alone, with the scanner's calibration: the pull is raw times gain, plus
    offset, each rounded once. *pull is written only where the answer is 0.
-   20: the body is broken. Then 21 to 23. */
+   51 5: pull is null. 20: the body is broken. Then 21 to 23. */
 uint32_t snaldrek_seal(const uint8_t *body, size_t body_len, double gain, double offset, double *pull);
 
 /* Judges a whole bag: its layout, its seal, and then its cases in order, each on the ledger that the

@@ -24,7 +24,7 @@ fn code(a: Answer) -> u32
 
 // Opens a fresh ledger. The table needs no byte of its own.
 #[no_mangle]
-pub extern "C" fn snaldrek_open(ledger: &mut [u8], roll: &mut [u8]) -> u32
+pub extern "C" fn snaldrek_proved_open(ledger: &mut [u8], roll: &mut [u8]) -> u32
     ensures { λ r. ⌜ r ≡ codeOf (openAnswer (now (ledger .entry)) (now (roll .entry))) ⌝ }
     ensures { λ _. ⌜ now (ledger .exit) ≡ openLedger (now (ledger .entry)) (now (roll .entry)) ⌝ }
     ensures { λ _. ⌜ now (roll .exit) ≡ openRoll (now (ledger .entry)) (now (roll .entry)) ⌝ }
@@ -39,7 +39,7 @@ pub extern "C" fn snaldrek_open(ledger: &mut [u8], roll: &mut [u8]) -> u32
 
 // Judges one case; an accepted one is entered.
 #[no_mangle]
-pub extern "C" fn snaldrek_judge(
+pub extern "C" fn snaldrek_proved_judge(
     case: &[u8],
     ledger: &mut [u8],
     table: &mut [u8],
@@ -64,7 +64,7 @@ pub extern "C" fn snaldrek_judge(
 
 // Closes a block.
 #[no_mangle]
-pub extern "C" fn snaldrek_close(ledger: &mut [u8], table: &[u8], roll: &mut [u8]) -> u32
+pub extern "C" fn snaldrek_proved_close(ledger: &mut [u8], table: &[u8], roll: &mut [u8]) -> u32
     ensures { λ r. ⌜ r ≡ codeOf (closeAnswer (now (ledger .entry)) (now (table .entry)) (now (roll .entry))) ⌝ }
     ensures { λ _. ⌜ now (ledger .exit) ≡ closeLedger (now (ledger .entry)) (now (table .entry)) (now (roll .entry)) ⌝ }
     ensures { λ _. ⌜ now (roll .exit) ≡ closeRoll (now (ledger .entry)) (now (table .entry)) (now (roll .entry)) ⌝ }
@@ -84,7 +84,7 @@ pub extern "C" fn snaldrek_close(ledger: &mut [u8], table: &[u8], roll: &mut [u8
 
 // The root that a block closed now would put on the roll.
 #[no_mangle]
-pub extern "C" fn snaldrek_root(ledger: &[u8], root: &mut [u8]) -> u32
+pub extern "C" fn snaldrek_proved_root(ledger: &[u8], root: &mut [u8]) -> u32
     ensures { λ r. ⌜ r ≡ codeOf (rootAnswer (now (ledger .entry)) (now (root .entry))) ⌝ }
     ensures { λ _. ⌜ now (root .exit) ≡ rootAfter (now (ledger .entry)) (now (root .entry)) ⌝ }
 {
@@ -120,7 +120,7 @@ fn hand_out(sealed: Sealed, pull: &mut f64) -> u32
 
 // Judges a seal's body.
 #[no_mangle]
-pub extern "C" fn snaldrek_seal(body: &[u8], gain: f64, offset: f64, pull: &mut f64) -> u32
+pub extern "C" fn snaldrek_proved_seal(body: &[u8], gain: f64, offset: f64, pull: &mut f64) -> u32
     ensures { λ r. ⌜ r ≡ codeOf (readAnswer (record { gain = gain; offset = offset }) (readOf (now (body .entry)))) ⌝ }
     ensures { λ _. ⌜ now (pull .exit) ≡ pullAfter (record { gain = gain; offset = offset }) (readOf (now (body .entry))) (now (pull .entry)) ⌝ }
 {
@@ -173,7 +173,7 @@ fn own_answer(scanned: Scanned) -> Answer
 
 // Judges a bag: its layout, its seal, and each of its cases, which the report tells of.
 #[no_mangle]
-pub extern "C" fn snaldrek_bag(
+pub extern "C" fn snaldrek_proved_bag(
     bag: &[u8],
     gain: f64,
     offset: f64,
@@ -231,7 +231,7 @@ fn tally_bytes(tally: Tally) -> [u8; 12]
 
 // Counts an answer, in the form that the other calls give it.
 #[no_mangle]
-pub extern "C" fn snaldrek_tally(tally: &mut [u8], answer: u32) -> u32
+pub extern "C" fn snaldrek_proved_tally(tally: &mut [u8], answer: u32) -> u32
     ensures { λ r. ⌜ r ≡ codeOf (tallyAnswer (now (tally .entry)) answer) ⌝ }
     ensures { λ _. ⌜ now (tally .exit) ≡ tallyAfter (now (tally .entry)) answer ⌝ }
 {
@@ -261,7 +261,7 @@ fn day_row(seal: u32, answer: u32) -> [u8; 6]
 
 // Rewrites one row of the day list.
 #[no_mangle]
-pub extern "C" fn snaldrek_day(list: &mut [u8], row: usize, seal: u32, answer: u32) -> u32
+pub extern "C" fn snaldrek_proved_day(list: &mut [u8], row: usize, seal: u32, answer: u32) -> u32
     ensures { λ r. ⌜ r ≡ codeOf (dayAnswer row (now (list .entry))) ⌝ }
     ensures { λ _. ⌜ now (list .exit) ≡ dayAfter row seal answer (now (list .entry)) ⌝ }
 {

@@ -35,6 +35,8 @@ pub enum Buffer {
     Report,
     /// Place 4.
     Tally,
+    /// Place 5.
+    Pull,
 }
 
 /// Why something was refused: a variant for each number, with its place.
@@ -246,6 +248,7 @@ impl Buffer {
             2 => Some(Buffer::Root),
             3 => Some(Buffer::Report),
             4 => Some(Buffer::Tally),
+            5 => Some(Buffer::Pull),
             _ => None,
         }
     }
@@ -256,6 +259,7 @@ impl Buffer {
             Buffer::Root => 2,
             Buffer::Report => 3,
             Buffer::Tally => 4,
+            Buffer::Pull => 5,
         }
     }
 }
@@ -263,7 +267,7 @@ impl Buffer {
 /// Number, place and words of each refusal, as docs/REFUSALS.md has them. Those
 /// of 1 and 3 also say what they mean where no case was judged.
 #[rustfmt::skip]
-const WORDS: [(u8, u8, &str); 37] = [
+const WORDS: [(u8, u8, &str); 38] = [
     (1, 0, "the case has not 4,210 bytes (opening: the roll has no row)"),
     (2, 0, "the ledger is damaged"),
     (3, 0, "fewer than two nullifier rows are free (closing: no roll row is)"),
@@ -298,6 +302,7 @@ const WORDS: [(u8, u8, &str); 37] = [
     (51, 2, "the root's buffer has not 32 bytes"),
     (51, 3, "the report's buffer has not 32 bytes"),
     (51, 4, "the tally's buffer has not 12 bytes"),
+    (51, 5, "the pull's buffer has not 8 bytes"),
     (52, 0, "the tally is full: seen, or the count that would be raised, is at its most"),
     (53, 0, "the day list has no such row"),
     (255, 0, "no answer was given"),

@@ -5,8 +5,8 @@ use borrow.Author.Tests.{eq-eqb, ne-eqb}
 use Rattle.ledgerbytes.specs.Keeping.{written}
 use Rattle.host.specs.Ledgers.{openAnswer, openRoll}
 use borrow.Author.Needs.{needs}
-use Rattle.host.proofs.snaldrek_open.Statement.{statement}
-use Rattle.host.proofs.snaldrek_open.Tie as tie
+use Rattle.host.proofs.snaldrek_proved_open.Statement.{statement}
+use Rattle.host.proofs.snaldrek_proved_open.Tie as tie
 
 returns : tie.Need-returns
 unfolding openAnswer openRoll written
@@ -26,8 +26,8 @@ returns-2 c =
       (w .write .ensures .1 ∙ rw (o .«open» .ensures .1 .0), o .«open» .ensures .1 .1 ∙ rw h),
     )
 
-pub snaldrek-open-spec : {M : Type 1} → statement M
-snaldrek-open-spec =
+pub snaldrek-proved-open-spec : {M : Type 1} → statement M
+snaldrek-proved-open-spec =
     tie.close
     (tie.spec
     (λ c κs. search needs)

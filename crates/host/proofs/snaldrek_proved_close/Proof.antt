@@ -9,8 +9,8 @@ use Rattle.ledger.specs.Ledgers.{closeTable}
 use Rattle.ledgerbytes.specs.Keeping.{isWhole, written}
 use Rattle.host.specs.Ledgers.{closeAnswer, closeLedger, closeRoll}
 use borrow.Author.Needs.{needs}
-use Rattle.host.proofs.snaldrek_close.Statement.{statement}
-use Rattle.host.proofs.snaldrek_close.Tie as tie
+use Rattle.host.proofs.snaldrek_proved_close.Statement.{statement}
+use Rattle.host.proofs.snaldrek_proved_close.Tie as tie
 
 returns : tie.Need-returns
 unfolding closeAnswer closeLedger closeRoll
@@ -48,8 +48,8 @@ returns-3 c =
     let yes = ap isAccepted (sym x) ∙ sym (k .is-accepted .ensures) ∙ not-false _ (q .if2 .left) in
     (c .code3 .ensures ∙ rw (d .0, e, whole j), (w .write .ensures .1 ∙ rw (d .1 .0, e, whole j, yes), d .1 .1 ∙ rw (e, whole j)))
 
-pub snaldrek-close-spec : {M : Type 1} → statement M
-snaldrek-close-spec =
+pub snaldrek-proved-close-spec : {M : Type 1} → statement M
+snaldrek-proved-close-spec =
     tie.close
     (tie.spec
     (λ c κs. search needs)

@@ -12,8 +12,8 @@ use Rattle.bag.specs.Scanning.{scannedOf}
 use Rattle.host.specs.Answers.{isLong}
 use Rattle.host.specs.Bags.{ownAnswer, scanOf, bagAnswer, bagLedger, bagTable, bagReport}
 use borrow.Author.Needs.{needs}
-use Rattle.host.proofs.snaldrek_bag.Statement.{statement}
-use Rattle.host.proofs.snaldrek_bag.Tie as tie
+use Rattle.host.proofs.snaldrek_proved_bag.Statement.{statement}
+use Rattle.host.proofs.snaldrek_proved_bag.Tie as tie
 
 returns : tie.Need-returns
 unfolding bagAnswer bagLedger bagTable bagReport
@@ -84,8 +84,8 @@ returns-4 c =
       ),
     )
 
-pub snaldrek-bag-spec : {M : Type 1} → statement M
-snaldrek-bag-spec =
+pub snaldrek-proved-bag-spec : {M : Type 1} → statement M
+snaldrek-proved-bag-spec =
     tie.close
     (tie.spec
     (λ c κs. search needs)

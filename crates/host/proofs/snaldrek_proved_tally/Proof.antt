@@ -12,8 +12,8 @@ use Rattle.octets.proofs.Joining.{start, next, done}
 use Rattle.host.specs.Answers.{isLong}
 use Rattle.host.specs.Books.{countedIn, tallyAnswer, tallyAfter}
 use borrow.Author.Needs.{needs}
-use Rattle.host.proofs.snaldrek_tally.Statement.{statement}
-use Rattle.host.proofs.snaldrek_tally.Tie as tie
+use Rattle.host.proofs.snaldrek_proved_tally.Statement.{statement}
+use Rattle.host.proofs.snaldrek_proved_tally.Tie as tie
 
 returns : tie.Need-returns
 unfolding tallyAnswer tallyAfter
@@ -57,8 +57,8 @@ returns-3 c =
     let new = done (next (b .tally-bytes .result) _ 12 0 (omega arith) (omega arith) (k2 .copy-in .ensures .1) (start (a .tally .now) 12 n)) in
     (c .code3 .ensures ∙ rw (c .before .accepted .ensures, h, yes), new ∙ b .tally-bytes .ensures ∙ rw (x, h, yes))
 
-pub snaldrek-tally-spec : {M : Type 1} → statement M
-snaldrek-tally-spec =
+pub snaldrek-proved-tally-spec : {M : Type 1} → statement M
+snaldrek-proved-tally-spec =
     tie.close
     (tie.spec
     (λ c κs. search needs)

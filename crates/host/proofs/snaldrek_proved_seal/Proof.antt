@@ -1,7 +1,7 @@
 use mathlib.Core.Path.{_≡_, sym, _∙_}
 use borrow.Author.Needs.{needs}
-use Rattle.host.proofs.snaldrek_seal.Statement.{statement}
-use Rattle.host.proofs.snaldrek_seal.Tie as tie
+use Rattle.host.proofs.snaldrek_proved_seal.Statement.{statement}
+use Rattle.host.proofs.snaldrek_proved_seal.Tie as tie
 
 returns : tie.Need-returns
 returns c =
@@ -16,8 +16,8 @@ returns-2 c =
     let g = sym (m .before .before .read-body .ensures) ∙ m .read .given .1 in
     (c .hand-out .ensures .0 ∙ rw (j .judge .ensures, g), c .hand-out .ensures .1 ∙ rw (j .judge .ensures, g))
 
-pub snaldrek-seal-spec : {M : Type 1} → statement M
-snaldrek-seal-spec =
+pub snaldrek-proved-seal-spec : {M : Type 1} → statement M
+snaldrek-proved-seal-spec =
     tie.close
     (tie.spec
     (λ c κs. search needs)

@@ -6,8 +6,8 @@ use borrow.Author.Tests.{eq-eqb, ne-eqb}
 use Rattle.octets.proofs.Joining.{start, next, done}
 use Rattle.host.specs.Ledgers.{rootAnswer, rootAfter}
 use borrow.Author.Needs.{needs}
-use Rattle.host.proofs.snaldrek_root.Statement.{statement}
-use Rattle.host.proofs.snaldrek_root.Tie as tie
+use Rattle.host.proofs.snaldrek_proved_root.Statement.{statement}
+use Rattle.host.proofs.snaldrek_proved_root.Tie as tie
 
 returns : tie.Need-returns
 unfolding rootAnswer rootAfter
@@ -41,8 +41,8 @@ returns-3 c =
     let new = done (next (t .root .result) _ 32 0 (omega arith) (omega arith) (k .copy-in .ensures .1) (start (a .root .now) 32 n)) in
     (c .code3 .ensures ∙ rw (c .before .accepted .ensures, h, eq-eqb (length (a .root .now)) 32 n), new ∙ t .root .ensures ∙ rw (r .read .ensures, h, eq-eqb (length (a .root .now)) 32 n))
 
-pub snaldrek-root-spec : {M : Type 1} → statement M
-snaldrek-root-spec =
+pub snaldrek-proved-root-spec : {M : Type 1} → statement M
+snaldrek-proved-root-spec =
     tie.close
     (tie.spec
     (λ c κs. search needs)

@@ -9,8 +9,8 @@ use Rattle.ledgerbytes.specs.Keeping.{ledgerOf, bytesOf, isWhole, written}
 use Rattle.judge.specs.Judging.{answerOf, ledgerAfter, tableAfter, judgedOf}
 use Rattle.host.specs.Ledgers.{judgeAnswer, judgeLedger, judgeTable}
 use borrow.Author.Needs.{needs}
-use Rattle.host.proofs.snaldrek_judge.Statement.{statement}
-use Rattle.host.proofs.snaldrek_judge.Tie as tie
+use Rattle.host.proofs.snaldrek_proved_judge.Statement.{statement}
+use Rattle.host.proofs.snaldrek_proved_judge.Tie as tie
 
 returns : tie.Need-returns
 unfolding judgeAnswer judgeLedger judgeTable
@@ -51,8 +51,8 @@ returns-3 c =
     let yes = ap (λ (y : Answered). isAccepted (y .answer)) (sym x) ∙ sym (k .is-accepted .ensures) ∙ not-false _ (q .if2 .left) in
     (c .code3 .ensures ∙ rw (x, h), (w .write .ensures .1 ∙ ap (λ (y : Answered). written (y .ledger) s) x ∙ rw (h, yes), j .judge .ensures .1 ∙ rw (j .before .before .read .ensures, h)))
 
-pub snaldrek-judge-spec : {M : Type 1} → statement M
-snaldrek-judge-spec =
+pub snaldrek-proved-judge-spec : {M : Type 1} → statement M
+snaldrek-proved-judge-spec =
     tie.close
     (tie.spec
     (λ c κs. search needs)

@@ -5,8 +5,8 @@ use lib.ListN.{length}
 use borrow.Author.Tests.{lt-ltb, le-ltb}
 use Rattle.host.specs.Books.{dayAnswer, dayAfter}
 use borrow.Author.Needs.{needs}
-use Rattle.host.proofs.snaldrek_day.Statement.{statement}
-use Rattle.host.proofs.snaldrek_day.Tie as tie
+use Rattle.host.proofs.snaldrek_proved_day.Statement.{statement}
+use Rattle.host.proofs.snaldrek_proved_day.Tie as tie
 
 returns : tie.Need-returns
 unfolding dayAnswer dayAfter
@@ -24,8 +24,8 @@ returns-2 c =
     let h = lt-ltb (a .row) (length (a .list .now) / 6) (omega arith) in
     (c .code2 .ensures ∙ rw (c .before .accepted .ensures, h), k .copy-in .ensures .1 ∙ rw (d .day-row .ensures, h))
 
-pub snaldrek-day-spec : {M : Type 1} → statement M
-snaldrek-day-spec =
+pub snaldrek-proved-day-spec : {M : Type 1} → statement M
+snaldrek-proved-day-spec =
     tie.close
     (tie.spec
     (λ c κs. search needs)

@@ -5,7 +5,7 @@
  * - The definitions have the arithmetic of IEEE 754 with its default attributes. The processor has it only
  *   in its default mode, so a call that computes with floats sets that mode, and gives the caller's back.
  * - The proved functions take slices, which are never null. A null pointer becomes the address of a byte
- *   that is neither read nor written, since its length has to be 0.
+ *   that is neither read nor written, since its length has to be 0. So a null pull is one of no bytes.
  *
  * It is compiled without any header, since the toolchain's compiler has none; 'hosts' compiles it together
  * with snaldrek.h as well, so that the two cannot differ.
@@ -20,7 +20,8 @@ uint32_t snaldrek_proved_judge(const uint8_t *file, size_t file_len, uint8_t *le
 uint32_t snaldrek_proved_close(uint8_t *ledger, size_t ledger_len, const uint8_t *table, size_t table_len,
                                uint8_t *roll, size_t roll_len);
 uint32_t snaldrek_proved_root(const uint8_t *ledger, size_t ledger_len, uint8_t *root, size_t root_len);
-uint32_t snaldrek_proved_seal(const uint8_t *body, size_t body_len, double gain, double offset, double *pull);
+uint32_t snaldrek_proved_seal(const uint8_t *body, size_t body_len, double gain, double offset,
+                              uint8_t *pull, size_t pull_len);
 uint32_t snaldrek_proved_bag(const uint8_t *bag, size_t bag_len, double gain, double offset,
                              uint8_t *ledger, size_t ledger_len, uint8_t *table, size_t table_len,
                              const uint8_t *roll, size_t roll_len, uint8_t *report, size_t report_len);
@@ -76,11 +77,9 @@ uint32_t snaldrek_root(const uint8_t *ledger, size_t ledger_len, uint8_t *root, 
 
 uint32_t snaldrek_seal(const uint8_t *body, size_t body_len, double gain, double offset, double *pull)
 {
-    uint32_t callers, answer;
-    if (!pull)
-        return 51 + 256 * 5;
-    callers = enter_default_mode();
-    answer = snaldrek_proved_seal(read_only(body), body_len, gain, offset, pull);
+    const uint32_t callers = enter_default_mode();
+    const uint32_t answer = snaldrek_proved_seal(read_only(body), body_len, gain, offset,
+                                                 lent((uint8_t *)pull), pull ? sizeof *pull : 0);
     go_back_to(callers);
     return answer;
 }

@@ -5,7 +5,6 @@ use Prim.Native.Nat.{ℕ}
 use mathlib.Core.Path.{_≡_, refl, sym, ap, _∙_}
 use mathlib.Core.Bool.{true, false, _&&_, true≢false}
 use mathlib.Core.List.{List}
-use lib.Ieee.{Float}
 use Rattle.octets.specs.Parts.{Bytes, zeros}
 use Rattle.octets.specs.Numbers.{littleBytes}
 use Rattle.refusals.specs.Table.{isAccepted}
@@ -15,6 +14,7 @@ use Rattle.seal.specs.declared.Read.{Read}
 use Rattle.seal.specs.declared.Read.the-variants.{Seal, Broken}
 use Rattle.seal.specs.declared.Sealed.{Sealed}
 use Rattle.seal.specs.declared.Sealed.the-variants.{Passed, BadLimit, NotFinite, Outside}
+use Rattle.seal.specs.Body.{readOf}
 use Rattle.seal.specs.Judgement.{judgeOf, sealAnswer}
 use Rattle.tree.specs.Record.{freshOf}
 use Rattle.ledger.specs.Ledgers.{startOf}
@@ -29,7 +29,7 @@ use Rattle.demands.specs.Bags.{answersTo, NoneAccepted}
 use Rattle.demands.proofs.Bags.{bag-is-calls, none-accepted}
 use Rattle.host.specs.Answers.{isLong}
 use Rattle.host.specs.Ledgers.{openAnswer, openLedger, openRoll, judgeAnswer, judgeLedger, judgeTable, closeAnswer, closeLedger, closeRoll, rootAnswer, rootAfter}
-use Rattle.host.specs.Bags.{readAnswer, handed, pullAfter, ownAnswer, scanOf, bagAnswer, bagLedger, bagTable, bagReport}
+use Rattle.host.specs.Bags.{readAnswer, handed, readPull, bodyAnswer, pullAfter, ownAnswer, scanOf, bagAnswer, bagLedger, bagTable, bagReport}
 use Rattle.host.specs.Books.{tallyAnswer, tallyAfter, isOnList, dayAnswer, dayAfter}
 use Rattle.host.proofs.KeptLaws.{refused-none}
 
@@ -80,15 +80,22 @@ unfolding dayAnswer dayAfter
 day-leaves i seal a b h = by-test (isOnList i b) (λ e. absurd (true≢false (rw e at h))) (λ e. rw e)
 
 -- a seal that does not pass hands out no pull
-not-handed : (s : Sealed) (old : Float) → isAccepted (sealAnswer s) ≡ false → handed s old ≡ old
-not-handed (Passed p) old h = absurd (true≢false h)
-not-handed BadLimit old h = refl
-not-handed NotFinite old h = refl
-not-handed Outside old h = refl
+not-handed : (s : Sealed) (o : List ℕ) → isAccepted (sealAnswer s) ≡ false → handed s o ≡ o
+not-handed (Passed p) o h = absurd (true≢false h)
+not-handed BadLimit o h = refl
+not-handed NotFinite o h = refl
+not-handed Outside o h = refl
 
-pub seal-leaves : (k : Calibration) (x : Read) (old : Float) → isAccepted (readAnswer k x) ≡ false → pullAfter k x old ≡ old
-seal-leaves k (Seal gate raw) old h = not-handed (judgeOf k gate raw) old h
-seal-leaves k Broken old h = refl
+not-read : (k : Calibration) (x : Read) (o : List ℕ) → isAccepted (readAnswer k x) ≡ false → readPull k x o ≡ o
+not-read k (Seal gate raw) o h = not-handed (judgeOf k gate raw) o h
+not-read k Broken o h = refl
+
+pub seal-leaves : (k : Calibration) (b o : List ℕ) → isAccepted (bodyAnswer k b o) ≡ false → pullAfter k b o ≡ o
+unfolding pullAfter bodyAnswer
+seal-leaves k b o h =
+    by-test (isLong 8 o)
+    (λ l. rw l (not-read k (readOf b) o (rw l at h)))
+    (λ l. rw l)
 
 -- A BAG whose own answer refuses, and one of whose cases none is accepted
 module _ (k : Calibration) (b s t r o : List ℕ) where

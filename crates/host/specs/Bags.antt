@@ -3,7 +3,8 @@
 use Prim.Native.Nat.{ℕ}
 use mathlib.Core.Bool.{Bool, cond, _&&_}
 use mathlib.Core.List.{List, [], _∷_, _++_}
-use lib.Ieee.{Float}
+use lib.Ieee.{Float, binary64, toBits}
+use Rattle.octets.specs.Parts.{pasted}
 use Rattle.octets.specs.Numbers.{littleBytes}
 use Rattle.refusals.specs.declared.Answer.{Answer}
 use Rattle.refusals.specs.Table.{answer, isAccepted}
@@ -12,26 +13,36 @@ use Rattle.seal.specs.declared.Read.{Read}
 use Rattle.seal.specs.declared.Read.the-variants.{Seal, Broken}
 use Rattle.seal.specs.declared.Sealed.{Sealed}
 use Rattle.seal.specs.declared.Sealed.the-variants.{Passed, BadLimit, NotFinite, Outside}
+use Rattle.seal.specs.Body.{readOf}
 use Rattle.seal.specs.Judgement.{judgeOf, sealAnswer}
 use Rattle.ledgerbytes.specs.Keeping.{isWhole, ledgerOf, bytesOf}
 use Rattle.bag.specs.declared.Scanned.{Scanned}
 use Rattle.bag.specs.Scanning.{scannedOf, tableAfterScan}
 use Rattle.host.specs.Answers.{codeOf, wrongLength, isLong}
 
--- THE SEAL alone: a broken body is 20, and only a pass hands the pull out
+-- THE SEAL alone, b its body and o the buffer for the pull: a broken body is 20, and only a pass hands the pull out, all its bits in eight bytes
 abbrev pub readAnswer : Calibration → Read → Answer
 readAnswer k (Seal gate raw) = sealAnswer (judgeOf k gate raw)
 readAnswer k Broken = answer 20 0
 
-abbrev pub handed : Sealed → Float → Float
-handed (Passed p) old = p
-handed BadLimit old = old
-handed NotFinite old = old
-handed Outside old = old
+abbrev pub pullBytes : Float → List ℕ
+pullBytes p = littleBytes 8 (toBits binary64 p)
 
-abbrev pub pullAfter : Calibration → Read → Float → Float
-pullAfter k (Seal gate raw) old = handed (judgeOf k gate raw) old
-pullAfter k Broken old = old
+abbrev pub handed : Sealed → List ℕ → List ℕ
+handed (Passed p) o = pasted 0 (pullBytes p) o
+handed BadLimit o = o
+handed NotFinite o = o
+handed Outside o = o
+
+abbrev pub readPull : Calibration → Read → List ℕ → List ℕ
+readPull k (Seal gate raw) o = handed (judgeOf k gate raw) o
+readPull k Broken o = o
+
+unfoldable pub bodyAnswer : Calibration → List ℕ → List ℕ → Answer
+bodyAnswer k b o = cond (isLong 8 o) (readAnswer k (readOf b)) (wrongLength 5)
+
+unfoldable pub pullAfter : Calibration → List ℕ → List ℕ → List ℕ
+pullAfter k b o = cond (isLong 8 o) (readPull k (readOf b) o) o
 
 -- THE BAG. Its own answer is the layout's where that refuses, else the seal's
 abbrev pub ownAnswer : Scanned → Answer

@@ -1,12 +1,13 @@
-// What a scanner's firmware links: C functions on numbers and bytes. A host keeps a ledger in three
-// buffers, its own 988 bytes, its table and its roll; nothing is kept here from call to call. Each call
-// reads the ledger from its bytes, leaves the work to the rooms below, and writes back what changed.
+// What a scanner's firmware links, by way of entry/calls.c: C functions on numbers and bytes. A host
+// keeps a ledger in three buffers, its own 988 bytes, its table and its roll; nothing is kept here from
+// call to call. Each call reads the ledger from its bytes, leaves the work to the rooms below, and
+// writes back what changed.
 ghost use mathlib.Core.Path.{_≡_};
-ghost use Rattle.seal.specs.Body.{readOf};
+ghost use lib.Ieee.{binary64, toBits};
 ghost use Rattle.seal.specs.Judgement.{sealAnswer};
 ghost use Rattle.host.specs.Answers.{codeOf, wrongLength};
 ghost use Rattle.host.specs.Ledgers.{openAnswer, openLedger, openRoll, judgeAnswer, judgeLedger, judgeTable, closeAnswer, closeLedger, closeRoll, rootAnswer, rootAfter};
-ghost use Rattle.host.specs.Bags.{handed, readAnswer, pullAfter, ownAnswer, bagAnswer, bagLedger, bagTable, answersOf, reportOf, bagReport};
+ghost use Rattle.host.specs.Bags.{handed, bodyAnswer, pullAfter, ownAnswer, bagAnswer, bagLedger, bagTable, answersOf, reportOf, bagReport};
 ghost use Rattle.host.specs.Books.{tallyIn, tallyBytes, tallyAnswer, tallyAfter, dayRow, dayAnswer, dayAfter};
 use bag::Scanned;
 use books::Tally;
@@ -101,15 +102,26 @@ pub extern "C" fn snaldrek_proved_root(ledger: &[u8], root: &mut [u8]) -> u32
     code(Answer::accepted())
 }
 
+// A float's bits. Those of a NaN cannot be read, and the definitions have one pattern for it.
+fn bits_of(x: f64) -> u64
+    ensures { λ r. ⌜ r ≡ toBits binary64 x ⌝ }
+{
+    if x != x {
+        return 0x7ff8_0000_0000_0000;
+    }
+    f64::to_bits(x)
+}
+
 // Hands out the pull of a seal that passed, and of no other.
-fn hand_out(sealed: Sealed, pull: &mut f64) -> u32
+fn hand_out(sealed: Sealed, pull: &mut [u8]) -> u32
     ensures { λ r. ⌜ r ≡ codeOf (sealAnswer sealed) ⌝ }
     ensures { λ _. ⌜ now (pull .exit) ≡ handed sealed (now (pull .entry)) ⌝ }
 {
     let answer = sealed.answer();
     match sealed {
         Sealed::Passed(p) => {
-            *pull = p;
+            let bytes = octets::le_bytes64(bits_of(p));
+            octets::copy_in(pull, 0, &bytes);
             code(answer)
         }
         Sealed::BadLimit => code(answer),
@@ -118,12 +130,15 @@ fn hand_out(sealed: Sealed, pull: &mut f64) -> u32
     }
 }
 
-// Judges a seal's body.
+// Judges a seal's body. The pull is handed out as eight bytes, so that all its bits are promised.
 #[no_mangle]
-pub extern "C" fn snaldrek_proved_seal(body: &[u8], gain: f64, offset: f64, pull: &mut f64) -> u32
-    ensures { λ r. ⌜ r ≡ codeOf (readAnswer (record { gain = gain; offset = offset }) (readOf (now (body .entry)))) ⌝ }
-    ensures { λ _. ⌜ now (pull .exit) ≡ pullAfter (record { gain = gain; offset = offset }) (readOf (now (body .entry))) (now (pull .entry)) ⌝ }
+pub extern "C" fn snaldrek_proved_seal(body: &[u8], gain: f64, offset: f64, pull: &mut [u8]) -> u32
+    ensures { λ r. ⌜ r ≡ codeOf (bodyAnswer (record { gain = gain; offset = offset }) (now (body .entry)) (now (pull .entry))) ⌝ }
+    ensures { λ _. ⌜ now (pull .exit) ≡ pullAfter (record { gain = gain; offset = offset }) (now (body .entry)) (now (pull .entry)) ⌝ }
 {
+    if pull.len() != 8 {
+        return code(Answer::refused(51, 5));
+    }
     let read = seal::read_body(body);
     match read {
         Read::Broken => code(Answer::refused(20, 0)),

@@ -15,7 +15,7 @@ use Rattle.octets.proofs.NumberLaws.{little-bytes}
 use Rattle.octets.proofs.PartLaws.{field-left, field-all, pasted-is, pasted-length}
 use Rattle.books.specs.declared.DayRow.{DayRow}
 use Rattle.books.specs.DayList.{entered}
-use Rattle.host.specs.Books.{dayRow, dayAfter, dayRowOf, dayRows, dayList}
+use Rattle.host.specs.Books.{dayRow, dayAnswer, dayAfter, dayRowOf, dayRows, dayList}
 
 -- what is copied in past the first k bytes is copied into the rest
 pasted-past : (k at : ℕ) (t s : List ℕ) → k + at + length t ≤ length s → pasted (k + at) t s ≡ take k s ++ pasted at t (drop k s)
@@ -62,15 +62,15 @@ row-long : (seal a : ℕ) → length (dayRow seal a) ≡ 6
 unfolding dayRow littleBytes
 row-long seal a = refl
 
--- the law
-pub day-entered : (i seal a : ℕ) (b : List ℕ) → seal < 2 ^ 32
+-- the law, of an answer that is one
+pub day-entered : (i seal a : ℕ) (b : List ℕ) → seal < 2 ^ 32 → a < 65536
     → dayList (dayAfter i seal a b) ≡ entered i (record { seal = seal; answer = a % 256; place = a / 256 % 256 }) (dayList b)
-unfolding dayAfter entered
-day-entered i seal a b h = go (decLe (length b / 6) i)
+unfolding dayAnswer dayAfter entered
+day-entered i seal a b h k = go (decLe (length b / 6) i)
   where
     go : Dec (length b / 6 ≤ i) → dayList (dayAfter i seal a b) ≡ entered i (record { seal = seal; answer = a % 256; place = a / 256 % 256 }) (dayList b)
     go (yes l) =
         rw (le-ltb i (length b / 6) l, rows-length (length b / 6) b, le-ltb i (length b / 6) l)
     go (no l) =
         let m : i < length b / 6 = lt-of-not-le l in
-        rw (lt-ltb i (length b / 6) m, rows-length (length b / 6) b, lt-ltb i (length b / 6) m, pasted-length (6 * i) (dayRow seal a) b, rows-set (length b / 6) i (dayRow seal a) b m (omega arith) (row-long seal a), row-read seal a h)
+        rw (lt-ltb i (length b / 6) m, lt-ltb a 65536 k, rows-length (length b / 6) b, lt-ltb i (length b / 6) m, pasted-length (6 * i) (dayRow seal a) b, rows-set (length b / 6) i (dayRow seal a) b m (omega arith) (row-long seal a), row-read seal a h)

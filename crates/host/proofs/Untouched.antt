@@ -30,7 +30,7 @@ use Rattle.demands.proofs.Bags.{bag-is-calls, none-accepted}
 use Rattle.host.specs.Answers.{isLong}
 use Rattle.host.specs.Ledgers.{openAnswer, openLedger, openRoll, judgeAnswer, judgeLedger, judgeTable, closeAnswer, closeLedger, closeRoll, rootAnswer, rootAfter}
 use Rattle.host.specs.Bags.{readAnswer, handed, readPull, bodyAnswer, pullAfter, ownAnswer, scanOf, bagAnswer, bagLedger, bagTable, bagReport}
-use Rattle.host.specs.Books.{tallyAnswer, tallyAfter, isOnList, dayAnswer, dayAfter}
+use Rattle.host.specs.Books.{tallyAnswer, tallyAfter, dayAnswer, dayAfter}
 use Rattle.host.proofs.KeptLaws.{refused-none}
 
 pub judge-leaves : (c s t r : List ℕ) → isAccepted (judgeAnswer c s t r) ≡ false → (judgeLedger c s t r ≡ s) × (judgeTable c s t r ≡ t)
@@ -75,9 +75,9 @@ pub tally-leaves : (b : List ℕ) (a : ℕ) → isAccepted (tallyAnswer b a) ≡
 unfolding tallyAfter
 tally-leaves b a h = rw h
 
-pub day-leaves : (i seal a : ℕ) (b : List ℕ) → isAccepted (dayAnswer i b) ≡ false → dayAfter i seal a b ≡ b
-unfolding dayAnswer dayAfter
-day-leaves i seal a b h = by-test (isOnList i b) (λ e. absurd (true≢false (rw e at h))) (λ e. rw e)
+pub day-leaves : (i seal a : ℕ) (b : List ℕ) → isAccepted (dayAnswer i a b) ≡ false → dayAfter i seal a b ≡ b
+unfolding dayAfter
+day-leaves i seal a b h = rw h
 
 -- a seal that does not pass hands out no pull
 not-handed : (s : Sealed) (o : List ℕ) → isAccepted (sealAnswer s) ≡ false → handed s o ≡ o

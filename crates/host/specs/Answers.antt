@@ -26,3 +26,7 @@ tallyFull = answer 52 0
 -- 53: the day list has no such row
 abbrev pub noSuchRow : Answer
 noSuchRow = answer 53 0
+
+-- 54: what is to be entered is no answer
+abbrev pub noAnswer : Answer
+noAnswer = answer 54 0

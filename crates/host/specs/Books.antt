@@ -13,7 +13,7 @@ use Rattle.books.specs.declared.DayRow.{DayRow}
 use Rattle.books.specs.declared.Tally.{Tally}
 use Rattle.books.specs.declared.Tallied.{Tallied}
 use Rattle.books.specs.Tally.{tallyOf}
-use Rattle.host.specs.Answers.{wrongLength, isLong, tallyFull, noSuchRow}
+use Rattle.host.specs.Answers.{wrongLength, isLong, tallyFull, noSuchRow, noAnswer}
 
 -- THE TALLY: seen, passed, refused, four bytes each
 unfoldable pub tallyIn : List ℕ → Tally
@@ -39,11 +39,15 @@ dayRow seal a = littleBytes 4 seal ++ littleBytes 2 a
 abbrev pub isOnList : ℕ → List ℕ → Bool
 isOnList i b = ltb i (length b / 6)
 
-unfoldable pub dayAnswer : ℕ → List ℕ → Answer
-dayAnswer i b = cond (isOnList i b) accepted noSuchRow
+-- a number and a place, and nothing above them
+abbrev pub isAnswer : ℕ → Bool
+isAnswer a = ltb a 65536
+
+unfoldable pub dayAnswer : ℕ → ℕ → List ℕ → Answer
+dayAnswer i a b = cond (isOnList i b) (cond (isAnswer a) accepted noAnswer) noSuchRow
 
 unfoldable pub dayAfter : ℕ → ℕ → ℕ → List ℕ → List ℕ
-dayAfter i seal a b = cond (isOnList i b) (pasted (6 * i) (dayRow seal a) b) b
+dayAfter i seal a b = cond (isAccepted (dayAnswer i a b)) (pasted (6 * i) (dayRow seal a) b) b
 
 -- the rows that the bytes are, as `books` has them
 unfoldable pub dayRowOf : List ℕ → DayRow

@@ -274,14 +274,17 @@ fn day_row(seal: u32, answer: u32) -> [u8; 6]
     bytes
 }
 
-// Rewrites one row of the day list.
+// Rewrites one row of the day list. A row has room for a number and a place, so more is no answer.
 #[no_mangle]
 pub extern "C" fn snaldrek_proved_day(list: &mut [u8], row: usize, seal: u32, answer: u32) -> u32
-    ensures { λ r. ⌜ r ≡ codeOf (dayAnswer row (now (list .entry))) ⌝ }
+    ensures { λ r. ⌜ r ≡ codeOf (dayAnswer row answer (now (list .entry))) ⌝ }
     ensures { λ _. ⌜ now (list .exit) ≡ dayAfter row seal answer (now (list .entry)) ⌝ }
 {
     if list.len() / 6 <= row {
         return code(Answer::refused(53, 0));
+    }
+    if 65535 < answer {
+        return code(Answer::refused(54, 0));
     }
     let bytes = day_row(seal, answer);
     octets::copy_in(list, 6 * row, &bytes);

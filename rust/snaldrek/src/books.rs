@@ -5,6 +5,7 @@ use crate::refusal::{Answer, Refusal};
 
 const TALLY_BYTES: usize = 12;
 const DAY_ROW_BYTES: usize = 6;
+const NOT_GIVEN: u8 = 255;
 
 /// How many answers were seen, and how many of them passed and were refused.
 #[derive(Clone, Copy, Debug, Default, PartialEq, Eq)]
@@ -69,10 +70,11 @@ pub struct DayList {
 }
 
 impl DayList {
-    /// A list of this many rows, each with seal 0 and a yes.
-    pub fn with_rows(rows: usize) -> DayList {
+    /// A list of this many rows, none of them entered: each says
+    /// [`Refusal::NotGiven`].
+    pub fn with_rows(rows: u32) -> DayList {
         DayList {
-            bytes: vec![0; rows * DAY_ROW_BYTES],
+            bytes: vec![NOT_GIVEN; rows as usize * DAY_ROW_BYTES],
         }
     }
 
@@ -91,7 +93,8 @@ impl DayList {
         self.bytes.len() / DAY_ROW_BYTES
     }
 
-    /// Writes a row, counted from 0. Refused where there is no such row.
+    /// Writes a row, counted from 0. Refused where there is no such row, and
+    /// where an answer without a name does not fit into one.
     pub fn enter(&mut self, row: usize, seal: u32, answer: Answer) -> Answer {
         Refusal::answer(calls::day(
             &mut self.bytes,
@@ -106,7 +109,10 @@ impl DayList {
         let bytes = self.bytes.chunks_exact(DAY_ROW_BYTES).nth(row)?;
         Some(DayRow {
             seal: u32::from_le_bytes([bytes[0], bytes[1], bytes[2], bytes[3]]),
-            answer: Refusal::answer(u32::from(bytes[4]) | u32::from(bytes[5]) << 8),
+            answer: match bytes[4] {
+                NOT_GIVEN => Err(Refusal::NotGiven),
+                number => Refusal::answer(u32::from(number) | u32::from(bytes[5]) << 8),
+            },
         })
     }
 }

@@ -18,5 +18,5 @@ pub use books::{DayList, DayRow, Tally};
 pub use ledger::{
     Ledger, CASE_BYTES, LEDGER_BYTES, MAX_ANCHORS, MAX_BAG_BYTES, MAX_SPENT, ROW_BYTES,
 };
-pub use refusal::{Answer, Bound, Buffer, Pair, Refusal};
+pub use refusal::{Answer, Bound, Buffer, Pair, Refusal, Unnamed};
 pub use seal::{judge_seal, Calibration, SEAL_BYTES};

@@ -89,12 +89,27 @@ pub enum Refusal {
     /// 53.
     NoSuchRow,
     /// 255: no answer was given. No call returns it; it stands in a report for
-    /// the cases that a bag has not.
+    /// the cases that a bag has not, and in a day list for the rows that were
+    /// not entered yet.
     NotGiven,
-    /// An answer that this crate has no name for, as the library gave it: the
-    /// two are of different versions. It is kept as a refusal, since only 0 is
-    /// a yes.
-    Unknown(u32),
+    /// 54: what was to be entered in the day list.
+    NoAnswer,
+    /// An answer that this crate has no name for: the library is of another
+    /// version. It is kept as a refusal, since only 0 is a yes.
+    Unknown(Unnamed),
+}
+
+/// The code of an answer that has no name here. It comes from
+/// [`Refusal::from_code`] alone, so that it is never 0, and never that of a
+/// refusal with a name.
+#[derive(Clone, Copy, Debug, PartialEq, Eq, PartialOrd, Ord, Hash)]
+pub struct Unnamed(u32);
+
+impl Unnamed {
+    /// The code, as the library gave it.
+    pub fn code(self) -> u32 {
+        self.0
+    }
 }
 
 impl Refusal {
@@ -103,7 +118,9 @@ impl Refusal {
     pub fn from_code(code: u32) -> Option<Refusal> {
         match (code & 0xff, code >> 8) {
             (0, 0) => None,
-            (number, place) => Some(known(number, place).unwrap_or(Refusal::Unknown(code))),
+            (number, place) => {
+                Some(known(number, place).unwrap_or(Refusal::Unknown(Unnamed(code))))
+            }
         }
     }
 
@@ -119,7 +136,7 @@ impl Refusal {
     pub fn code_of(answer: Answer) -> u32 {
         match answer {
             Ok(()) => 0,
-            Err(Refusal::Unknown(code)) => code,
+            Err(Refusal::Unknown(unnamed)) => unnamed.code(),
             Err(refusal) => u32::from(refusal.number()) | u32::from(refusal.place()) << 8,
         }
     }
@@ -150,8 +167,9 @@ impl Refusal {
             Refusal::WrongBuffer(_) => 51,
             Refusal::TallyFull => 52,
             Refusal::NoSuchRow => 53,
+            Refusal::NoAnswer => 54,
             Refusal::NotGiven => 255,
-            Refusal::Unknown(code) => code as u8,
+            Refusal::Unknown(unnamed) => unnamed.code() as u8,
         }
     }
 
@@ -169,7 +187,7 @@ impl Refusal {
             | Refusal::CommitmentWrong(which) => which.place(),
             Refusal::OutOfRange(Bound::Phi) => 3,
             Refusal::WrongBuffer(buffer) => buffer.place(),
-            Refusal::Unknown(code) => (code >> 8) as u8,
+            Refusal::Unknown(unnamed) => (unnamed.code() >> 8) as u8,
             _ => 0,
         }
     }
@@ -198,6 +216,7 @@ fn without_place(number: u32) -> Option<Refusal> {
         23 => Refusal::PullOutside,
         52 => Refusal::TallyFull,
         53 => Refusal::NoSuchRow,
+        54 => Refusal::NoAnswer,
         255 => Refusal::NotGiven,
         _ => return None,
     })
@@ -267,7 +286,7 @@ impl Buffer {
 /// Number, place and words of each refusal, as docs/REFUSALS.md has them. Those
 /// of 1 and 3 also say what they mean where no case was judged.
 #[rustfmt::skip]
-const WORDS: [(u8, u8, &str); 38] = [
+const WORDS: [(u8, u8, &str); 39] = [
     (1, 0, "the case has not 4,210 bytes (opening: the roll has no row)"),
     (2, 0, "the ledger is damaged"),
     (3, 0, "fewer than two nullifier rows are free (closing: no roll row is)"),
@@ -305,6 +324,7 @@ const WORDS: [(u8, u8, &str); 38] = [
     (51, 5, "the pull's buffer has not 8 bytes"),
     (52, 0, "the tally is full: seen, or the count that would be raised, is at its most"),
     (53, 0, "the day list has no such row"),
+    (54, 0, "what is to be entered in the day list is no answer"),
     (255, 0, "no answer was given"),
 ];
 
@@ -313,7 +333,9 @@ impl fmt::Display for Refusal {
         let (number, place) = (self.number(), self.place());
         let row = WORDS.iter().find(|row| (row.0, row.1) == (number, place));
         match (self, row) {
-            (Refusal::Unknown(code), _) => write!(out, "an answer without a name, {code:#x}"),
+            (Refusal::Unknown(Unnamed(code)), _) => {
+                write!(out, "an answer without a name, {code:#x}")
+            }
             (_, Some((_, _, words))) => out.write_str(words),
             (_, None) => write!(out, "refused with {number} {place}"),
         }

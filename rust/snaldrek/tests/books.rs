@@ -72,8 +72,8 @@ fn entering_a_row_changes_that_row_alone() {
     let mut list = DayList::with_rows(40);
     let mut rows = vec![
         DayRow {
-            seal: 0,
-            answer: Ok(())
+            seal: u32::MAX,
+            answer: Err(Refusal::NotGiven)
         };
         40
     ];
@@ -98,6 +98,39 @@ fn entering_a_row_changes_that_row_alone() {
         assert_eq!(found, rows);
     }
     assert_eq!(list.row(40), None);
+}
+
+#[test]
+fn what_is_no_answer_is_not_entered() {
+    let mut bytes = vec![9; 12];
+    for answer in [65_536, 65_536 + 8, 1 << 24, 1 << 31, u32::MAX] {
+        assert_eq!(calls::day(&mut bytes, 1, 1, answer), 54);
+        assert_eq!(
+            calls::day(&mut bytes, 2, 1, answer),
+            53,
+            "the row comes first"
+        );
+    }
+    assert!(bytes.iter().all(|byte| *byte == 9));
+    assert_eq!(calls::day(&mut bytes, 1, 1, 65_535), 0);
+    assert_eq!(bytes[6..], [1, 0, 0, 0, 255, 255]);
+}
+
+#[test]
+fn an_unnamed_answer_is_a_refusal_in_both_books() {
+    for code in [0x2a, 0x100, 0xff01, 1 << 16, u32::MAX] {
+        let answer = Refusal::answer(code);
+        assert!(matches!(answer, Err(Refusal::Unknown(_))), "{code:#x}");
+        let (mut tally, mut list) = (Tally::new(), DayList::with_rows(1));
+        assert_eq!(tally.count(answer), Ok(()));
+        assert_eq!(counts(&tally), [1, 0, 1]);
+        let (entered, found) = match code {
+            0..=0xffff => (Ok(()), answer),
+            _ => (Err(Refusal::NoAnswer), Err(Refusal::NotGiven)),
+        };
+        assert_eq!(list.enter(0, 7, answer), entered);
+        assert_eq!(list.row(0).map(|row| row.answer), Some(found));
+    }
 }
 
 #[test]

@@ -19,7 +19,7 @@ fn rows() -> Vec<(u32, u32, &'static str)> {
 #[test]
 fn each_row_has_its_variant_and_words() {
     let rows = rows();
-    assert_eq!(rows.len(), 38);
+    assert_eq!(rows.len(), 39);
     for (number, place, words) in rows {
         let code = number + 256 * place;
         let refusal = Refusal::from_code(code).expect("a refusal");

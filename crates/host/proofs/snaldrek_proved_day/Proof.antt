@@ -18,11 +18,20 @@ returns c =
 returns-2 : tie.Need-returns-2
 unfolding dayAnswer dayAfter
 returns-2 c =
+    let a = c .before .before .before .before .before .args in
+    let h = lt-ltb (a .row) (length (a .list .now) / 6) (omega arith) in
+    let n = le-ltb (a .answer) 65536 (omega arith) in
+    (c .code2 .ensures ∙ rw (c .before .refused2 .ensures, h, n), rw (h, n))
+
+returns-3 : tie.Need-returns-3
+unfolding dayAnswer dayAfter
+returns-3 c =
     let k = c .before .before .before .before in
     let d = k .before .before .before in
-    let a = d .before .before .before .args in
+    let a = d .before .before .before .before .args in
     let h = lt-ltb (a .row) (length (a .list .now) / 6) (omega arith) in
-    (c .code2 .ensures ∙ rw (c .before .accepted .ensures, h), k .copy-in .ensures .1 ∙ rw (d .day-row .ensures, h))
+    let n = lt-ltb (a .answer) 65536 (omega arith) in
+    (c .code3 .ensures ∙ rw (c .before .accepted .ensures, h, n), k .copy-in .ensures .1 ∙ rw (d .day-row .ensures, h, n))
 
 pub snaldrek-proved-day-spec : {M : Type 1} → statement M
 snaldrek-proved-day-spec =
@@ -32,10 +41,13 @@ snaldrek-proved-day-spec =
     (λ c κs. search needs)
     returns
     (λ c κs. search needs)
+    (λ c κs. search needs)
+    returns-2
+    (λ c κs. search needs)
     (λ c. search needs)
     (λ c. search needs)
     (λ c κs. search needs)
     (λ c κs. search needs)
     (λ c κs. search needs)
     (λ c. search needs)
-    returns-2)
+    returns-3)

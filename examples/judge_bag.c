@@ -30,25 +30,35 @@ static void print_cases_and_ledger(void)
            snaldrek_ledger_leaves(ledger), snaldrek_ledger_pool(ledger));
 }
 
+/* Says what failed, and gives the exit status for it. */
+static int failed(const char *what)
+{
+    perror(what);
+    return 2;
+}
+
 int main(int argc, char **argv)
 {
-    FILE *in = argc > 1 ? fopen(argv[1], "rb") : stdin;
+    const char *name = argc > 1 ? argv[1] : "standard input";
+    FILE *in = argc > 1 ? fopen(name, "rb") : stdin;
     size_t length;
     uint32_t answer;
-    if (!in) {
-        perror(argv[1]);
-        return 2;
-    }
+    if (!in)
+        return failed(name);
     length = fread(bag, 1, sizeof bag, in);
+    if (ferror(in))
+        return failed(name);
     answer = snaldrek_open(ledger, sizeof ledger, roll, sizeof roll);
     if (answer != SNALDREK_ACCEPTED) {
         print_answer("open", answer);
-        return 1;
+        return 2;
     }
     answer = snaldrek_bag(bag, length, 1.0, 0.0, ledger, sizeof ledger, table, sizeof table, roll, sizeof roll,
                           report, sizeof report);
     print_answer(SNALDREK_NUMBER(answer) == SNALDREK_LAYOUT_BROKEN ? "bag" : "seal", answer);
     if (answer == SNALDREK_ACCEPTED)
         print_cases_and_ledger();
+    if (fflush(stdout) != 0 || ferror(stdout))
+        return failed("standard output");
     return 0;
 }

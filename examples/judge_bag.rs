@@ -3,27 +3,37 @@
 //!
 //!     judge_bag [FILE]        standard input where no FILE is named
 
-use std::io::{self, Read};
+use std::io::{self, Read, Write};
+use std::process::ExitCode;
 
 use snaldrek::{Answer, Calibration, Ledger, Refusal, MAX_ANCHORS, MAX_SPENT};
 
-fn main() -> io::Result<()> {
-    let bag = read_bag()?;
-    let mut ledger =
-        Ledger::open(MAX_SPENT, MAX_ANCHORS).expect("a roll with rows is never refused");
-    match ledger.scan_bag(&bag, Calibration::PLAIN) {
-        Err(broken @ Refusal::LayoutBroken) => print_answer("bag", Err(broken)),
-        Err(seal) => print_answer("seal", Err(seal)),
-        Ok(cases) => {
-            print_answer("seal", Ok(()));
-            cases
-                .into_iter()
-                .for_each(|answer| print_answer("case", answer));
-            let (spent, leaves, pool) = (ledger.spent(), ledger.leaves(), ledger.pool());
-            println!("ledger spent {spent} leaves {leaves} pool {pool}");
+fn main() -> ExitCode {
+    match read_bag().and_then(|bag| judge(&bag, &mut io::stdout().lock())) {
+        Ok(()) => ExitCode::SUCCESS,
+        Err(error) => {
+            eprintln!("judge_bag: {error}");
+            ExitCode::from(2)
         }
     }
-    Ok(())
+}
+
+fn judge(bag: &[u8], out: &mut impl Write) -> io::Result<()> {
+    let mut ledger =
+        Ledger::open(MAX_SPENT, MAX_ANCHORS).expect("a roll with rows is never refused");
+    match ledger.scan_bag(bag, Calibration::PLAIN) {
+        Err(broken @ Refusal::LayoutBroken) => print_answer(out, "bag", Err(broken))?,
+        Err(seal) => print_answer(out, "seal", Err(seal))?,
+        Ok(cases) => {
+            print_answer(out, "seal", Ok(()))?;
+            for answer in cases {
+                print_answer(out, "case", answer)?;
+            }
+            let (spent, leaves, pool) = (ledger.spent(), ledger.leaves(), ledger.pool());
+            writeln!(out, "ledger spent {spent} leaves {leaves} pool {pool}")?;
+        }
+    }
+    out.flush()
 }
 
 fn read_bag() -> io::Result<Vec<u8>> {
@@ -37,9 +47,10 @@ fn read_bag() -> io::Result<Vec<u8>> {
     Ok(bag)
 }
 
-fn print_answer(what: &str, answer: Answer) {
-    match answer {
-        Ok(()) => println!("{what} 0 0"),
-        Err(refusal) => println!("{what} {} {}", refusal.number(), refusal.place()),
-    }
+fn print_answer(out: &mut impl Write, what: &str, answer: Answer) -> io::Result<()> {
+    let (number, place) = match answer {
+        Ok(()) => (0, 0),
+        Err(refusal) => (refusal.number(), refusal.place()),
+    };
+    writeln!(out, "{what} {number} {place}")
 }

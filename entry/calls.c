@@ -52,6 +52,9 @@ static void go_back_to(uint32_t callers) { __asm__ volatile("ldmxcsr %0" : : "m"
 
 /* ---- The calls ---- */
 
+/* The number comes from the header, by the command that compiles this. */
+uint32_t snaldrek_version(void) { return SNALDREK_VERSION; }
+
 uint32_t snaldrek_open(uint8_t *ledger, size_t ledger_len, uint8_t *roll, size_t roll_len)
 {
     return snaldrek_proved_open(lent(ledger), ledger_len, lent(roll), roll_len);

@@ -20,6 +20,11 @@
  * processor's default mode, whatever mode they are called in: to the nearest, nothing flushed to zero,
  * no exception raised. The caller's mode (MXCSR, with all that was noted in it) is the same afterwards.
  *
+ * STACK. No call takes more than SNALDREK_STACK_BYTES of it; a bag takes the most. The stack is aligned
+ * as the calling convention has it, and the 128 bytes below the stack pointer are used (the red zone), so
+ * that whatever interrupts a call on its own stack has to step over them. The processor needs SSE2, which
+ * every x86-64 has, and the system has to have switched it on.
+ *
  * THREADS. Calls may run at the same time on any threads, as long as no buffer that one of them
  * writes (a pointer without const) is lent to another. So each ledger needs a lock of its own, or
  * one thread of its own; different ledgers need nothing.
@@ -36,6 +41,14 @@
 extern "C" {
 #endif
 
+/* ---- Version ---- */
+
+/* 0.1.0, a byte for each of the three numbers. */
+#define SNALDREK_VERSION 0x000100u
+
+/* The version that the library was made with: the same number, or it is not the library of this header. */
+uint32_t snaldrek_version(void);
+
 /* ---- Sizes, in bytes unless they count rows ---- */
 
 #define SNALDREK_CASE_BYTES 4210         /* a case file; any other length is refused with 1 */
@@ -50,6 +63,7 @@ extern "C" {
 #define SNALDREK_REPORT_BYTES 32         /* what became of a bag's cases */
 #define SNALDREK_TALLY_BYTES 12          /* the shift's three counts */
 #define SNALDREK_DAY_ROW_BYTES 6         /* a row of the day list */
+#define SNALDREK_STACK_BYTES 16384       /* the most stack that a call takes */
 
 /* Buffers of these lengths have all the room that a ledger can use. Longer ones are never refused,
    but rows past the most are not used. */

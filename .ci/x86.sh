@@ -20,6 +20,7 @@ find_rustc() {
     for rustc in ${RUSTC:+"$RUSTC"} $(type -ap rustc); do
         if "$rustc" --target "$target" -C linker="$linker" -o "$room/nothing-rust" "$room/nothing.rs" 2>/dev/null; then
             export RUSTC=$rustc
+            [ ! -x "${rustc%rustc}rustdoc" ] || export RUSTDOC=${rustc%rustc}rustdoc
             return 0
         fi
     done

@@ -5,6 +5,12 @@ use std::process::exit;
 
 fn main() {
     println!("cargo:rerun-if-env-changed=SNALDREK_LIB");
+    let processor = std::env::var("CARGO_CFG_TARGET_ARCH").unwrap_or_default();
+    if processor != "x86_64" {
+        eprintln!("snaldrek: libsnaldrek.a is for x86-64, and this is built for {processor}");
+        eprintln!("snaldrek: name the target, as --target x86_64-unknown-linux-gnu");
+        exit(1)
+    }
     let folder = folder_of_library().unwrap_or_else(|why| {
         eprintln!("snaldrek: {why}");
         eprintln!("snaldrek: './snaldrek library FOLDER' builds libsnaldrek.a; then set SNALDREK_LIB=FOLDER");

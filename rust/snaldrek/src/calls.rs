@@ -7,6 +7,7 @@
 
 mod header {
     extern "C" {
+        pub fn snaldrek_version() -> u32;
         pub fn snaldrek_open(
             ledger: *mut u8,
             ledger_len: usize,
@@ -73,6 +74,12 @@ mod header {
 // lengths that it is given, keeps no pointer, and has no state. A slice gives
 // a pointer that is not null and as many bytes as its length says, and the
 // compiler sees to it that a `&mut` slice overlaps no other.
+
+/// `snaldrek_version`: a byte for each of the three numbers.
+pub fn version() -> u32 {
+    // SAFETY: it takes nothing and only returns a number.
+    unsafe { header::snaldrek_version() }
+}
 
 /// `snaldrek_open`.
 pub fn open(ledger: &mut [u8], roll: &mut [u8]) -> u32 {

@@ -1,5 +1,9 @@
 //! A ledger and its buffers.
 
+use alloc::vec;
+use alloc::vec::Vec;
+use core::fmt;
+
 use crate::calls;
 use crate::refusal::{Answer, Refusal};
 use crate::seal::Calibration;
@@ -20,7 +24,7 @@ pub const MAX_ANCHORS: usize = 1_024;
 const REPORT_BYTES: usize = 32;
 
 /// A ledger, with the memory that it stands in.
-#[derive(Clone, Debug, PartialEq, Eq)]
+#[derive(Clone, PartialEq, Eq)]
 pub struct Ledger {
     bytes: [u8; LEDGER_BYTES],
     table: Vec<u8>,
@@ -119,7 +123,19 @@ impl Ledger {
     }
 
     fn part<const N: usize>(&self, at: usize) -> [u8; N] {
-        std::array::from_fn(|i| self.bytes[at + i])
+        core::array::from_fn(|i| self.bytes[at + i])
+    }
+}
+
+/// What the ledger says of itself, and none of its thousands of bytes.
+impl fmt::Debug for Ledger {
+    fn fmt(&self, out: &mut fmt::Formatter<'_>) -> fmt::Result {
+        out.debug_struct("Ledger")
+            .field("spent", &self.spent())
+            .field("anchors", &self.anchors())
+            .field("leaves", &self.leaves())
+            .field("pool", &self.pool())
+            .finish_non_exhaustive()
     }
 }
 

@@ -6,15 +6,38 @@
 //!
 //! Nothing here judges: the library does, and this crate lends it memory and
 //! reads its answers. Those who keep a ledger in memory of their own call
-//! [`calls`], which is the C header over slices.
+//! [`calls`], which is the C header over slices. Without the feature `alloc`
+//! these, the [`Tally`] and the seal are all there is.
+//!
+//! ```
+//! use snaldrek::{judge_seal, Calibration, Ledger, Refusal};
+//!
+//! let mut ledger = Ledger::open(2, 1)?;
+//! assert_eq!(ledger.judge(b"no case"), Err(Refusal::WrongLength));
+//! assert_eq!(ledger.spent(), 0);
+//!
+//! let mut body = [0; 25];
+//! body[17..].copy_from_slice(&100.0_f64.to_le_bytes());
+//! let calibration = Calibration { gain: 0.5, offset: 1.0 };
+//! assert_eq!(judge_seal(&body, calibration), Ok(51.0));
+//! # Ok::<(), Refusal>(())
+//! ```
+#![no_std]
+
+#[cfg(feature = "alloc")]
+extern crate alloc;
 
 mod books;
 pub mod calls;
+#[cfg(feature = "alloc")]
 mod ledger;
 mod refusal;
 mod seal;
 
-pub use books::{DayList, DayRow, Tally};
+pub use books::Tally;
+#[cfg(feature = "alloc")]
+pub use books::{DayList, DayRow};
+#[cfg(feature = "alloc")]
 pub use ledger::{
     Ledger, CASE_BYTES, LEDGER_BYTES, MAX_ANCHORS, MAX_BAG_BYTES, MAX_SPENT, ROW_BYTES,
 };

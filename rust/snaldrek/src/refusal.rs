@@ -1,7 +1,7 @@
 //! What the library refuses, by number and place.
 
-use std::error::Error;
-use std::fmt;
+use core::error::Error;
+use core::fmt;
 
 /// Yes, or the refusal.
 pub type Answer = Result<(), Refusal>;
@@ -17,6 +17,7 @@ pub enum Pair {
 
 /// What of a case has a bound on its size.
 #[derive(Clone, Copy, Debug, PartialEq, Eq, PartialOrd, Ord, Hash)]
+#[non_exhaustive]
 pub enum Bound {
     /// Places 1 and 2: an old note's key or position.
     OldNote(Pair),
@@ -26,6 +27,7 @@ pub enum Bound {
 
 /// A lent buffer that has one right length.
 #[derive(Clone, Copy, Debug, PartialEq, Eq, PartialOrd, Ord, Hash)]
+#[non_exhaustive]
 pub enum Buffer {
     /// Place 1.
     Ledger,
@@ -41,6 +43,7 @@ pub enum Buffer {
 
 /// Why something was refused: a variant for each number, with its place.
 #[derive(Clone, Copy, Debug, PartialEq, Eq, PartialOrd, Ord, Hash)]
+#[non_exhaustive]
 pub enum Refusal {
     /// 1: of a case; of a fresh ledger, whose roll has no row.
     WrongLength,

@@ -17,6 +17,25 @@ fn rows() -> Vec<(u32, u32, &'static str)> {
 }
 
 #[test]
+fn the_library_has_this_crates_version() {
+    let number = |text: &str| text.parse::<u32>().expect("a number");
+    let numbers = env!("CARGO_PKG_VERSION").split('.').map(number);
+    let version = numbers.fold(0, |so_far, number| so_far * 256 + number);
+    assert_eq!(snaldrek::calls::version(), version);
+}
+
+#[test]
+fn debugging_prints_no_memory() {
+    let ledger = snaldrek::Ledger::open(2_048, 1_024).expect("rows for anchors");
+    assert_eq!(
+        format!("{ledger:?}"),
+        "Ledger { spent: 0, anchors: 1, leaves: 0, pool: 0, .. }"
+    );
+    let list = snaldrek::DayList::with_rows(9);
+    assert_eq!(format!("{list:?}"), "DayList { rows: 9, .. }");
+}
+
+#[test]
 fn each_row_has_its_variant_and_words() {
     let rows = rows();
     assert_eq!(rows.len(), 39);

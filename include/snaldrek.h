@@ -20,6 +20,11 @@
  * processor's default mode, whatever mode they are called in: to the nearest, nothing flushed to zero,
  * no exception raised. The caller's mode (MXCSR, with all that was noted in it) is the same afterwards.
  *
+ * LOST POWER. A ledger's three buffers belong together, and no call can tell all three from a mixture: a
+ * new table beside old ledger bytes may be undamaged, and then a spent note passes again. So store them
+ * in two slots by turns, each with a length and a SHA-256 over all three (snaldrek_hash) that are written
+ * last, answer only after that, and take the newer slot that checks. examples/keep_ledger.c does it.
+ *
  * STACK. No call takes more than SNALDREK_STACK_BYTES of it; a bag takes the most. The stack is aligned
  * as the calling convention has it, and the 128 bytes below the stack pointer are used (the red zone), so
  * that whatever interrupts a call on its own stack has to step over them. The processor needs SSE2, which
@@ -60,6 +65,7 @@ uint32_t snaldrek_version(void);
 #define SNALDREK_TABLE_MAX_ROWS 2048     /* nullifiers; two for each accepted case */
 #define SNALDREK_ROLL_MAX_ROWS 1024      /* anchors; one from the start, one for each closed block */
 #define SNALDREK_ROOT_BYTES 32           /* the tree's root */
+#define SNALDREK_DIGEST_BYTES 32         /* a SHA-256 */
 #define SNALDREK_REPORT_BYTES 32         /* what became of a bag's cases */
 #define SNALDREK_TALLY_BYTES 12          /* the shift's three counts */
 #define SNALDREK_DAY_ROW_BYTES 6         /* a row of the day list */
@@ -116,7 +122,8 @@ enum snaldrek_buffer {
     SNALDREK_BUFFER_ROOT = 2,
     SNALDREK_BUFFER_REPORT = 3,
     SNALDREK_BUFFER_TALLY = 4,
-    SNALDREK_BUFFER_PULL = 5            /* it is null */
+    SNALDREK_BUFFER_PULL = 5,           /* it is null */
+    SNALDREK_BUFFER_DIGEST = 6
 };
 
 #define SNALDREK_NUMBER(answer) ((unsigned)((answer) & 0xffu))
@@ -146,6 +153,10 @@ uint32_t snaldrek_close(uint8_t *ledger, size_t ledger_len, const uint8_t *table
 /* Writes the tree's root as it stands now, whether or not a block was closed.
    51 1: the ledger's length. 51 2: the root's. */
 uint32_t snaldrek_root(const uint8_t *ledger, size_t ledger_len, uint8_t *root, size_t root_len);
+
+/* Writes the SHA-256 of any bytes.
+   51 6: the digest's length. */
+uint32_t snaldrek_hash(const uint8_t *bytes, size_t bytes_len, uint8_t *digest, size_t digest_len);
 
 /* ---- A bag ---- */
 

@@ -142,6 +142,9 @@ static void try_null(void)
                51 + 256 * SNALDREK_BUFFER_REPORT, "no report", &none, mode());
     expect(snaldrek_bag(NULL, 0, 1, 0, ledger, sizeof ledger, NULL, 0, NULL, 0, report, sizeof report) == 20,
            "no bag", &none, mode());
+    expect(snaldrek_hash(NULL, 0, NULL, 0) == 51 + 256 * SNALDREK_BUFFER_DIGEST, "no digest", &none, mode());
+    expect(snaldrek_hash(NULL, 0, report, sizeof report) == 0 && report[0] == 0xe3 && report[31] == 0x55,
+           "the SHA-256 of nothing", &none, mode());
     expect(snaldrek_tally(NULL, 0, 0) == 51 + 256 * SNALDREK_BUFFER_TALLY, "no tally", &none, mode());
     expect(snaldrek_day(NULL, 0, 0, 1, 0) == 53, "no list", &none, mode());
 }

@@ -28,7 +28,7 @@ use Rattle.demands.specs.Histories.{Held}
 use Rattle.demands.specs.Bags.{answersTo, NoneAccepted}
 use Rattle.demands.proofs.Bags.{bag-is-calls, none-accepted}
 use Rattle.host.specs.Answers.{isLong}
-use Rattle.host.specs.Ledgers.{openAnswer, openLedger, openRoll, judgeAnswer, judgeLedger, judgeTable, closeAnswer, closeLedger, closeRoll, rootAnswer, rootAfter}
+use Rattle.host.specs.Ledgers.{openAnswer, openLedger, openRoll, judgeAnswer, judgeLedger, judgeTable, closeAnswer, closeLedger, closeRoll, rootAnswer, rootAfter, hashAnswer, hashAfter}
 use Rattle.host.specs.Bags.{readAnswer, handed, readPull, bodyAnswer, pullAfter, ownAnswer, scanOf, bagAnswer, bagLedger, bagTable, bagReport}
 use Rattle.host.specs.Books.{tallyAnswer, tallyAfter, dayAnswer, dayAfter}
 use Rattle.host.proofs.KeptLaws.{refused-none}
@@ -70,6 +70,10 @@ open-zeros s r w h = let e = rw w at h in rw (w, ← open-refused r e .0) no-led
 pub root-leaves : (s o : List ℕ) → isAccepted (rootAnswer s o) ≡ false → rootAfter s o ≡ o
 unfolding rootAfter
 root-leaves s o h = rw h
+
+pub hash-leaves : (m o : List ℕ) → isAccepted (hashAnswer o) ≡ false → hashAfter m o ≡ o
+unfolding hashAfter
+hash-leaves m o h = rw h
 
 pub tally-leaves : (b : List ℕ) (a : ℕ) → isAccepted (tallyAnswer b a) ≡ false → tallyAfter b a ≡ b
 unfolding tallyAfter

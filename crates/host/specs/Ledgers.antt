@@ -6,6 +6,7 @@ use mathlib.Core.Bool.{cond}
 use mathlib.Core.List.{List}
 use Rattle.refusals.specs.declared.Answer.{Answer}
 use Rattle.refusals.specs.Table.{first, accepted, isAccepted}
+use Rattle.sha256.specs.Hash.{sha256Of}
 use Rattle.tree.specs.Record.{recordRoot}
 use Rattle.ledger.specs.Ledgers.{openTable, openedOf, rollAfterOpen, closeTable, closedOf, rollAfterClose}
 use Rattle.ledgerbytes.specs.Keeping.{isWhole, ledgerOf, bytesOf, written}
@@ -48,3 +49,10 @@ rootAnswer s o = cond (isWhole s) (cond (isLong 32 o) accepted (wrongLength 2)) 
 
 unfoldable pub rootAfter : List ℕ → List ℕ → List ℕ
 rootAfter s o = cond (isAccepted (rootAnswer s o)) (recordRoot (ledgerOf s .tree)) o
+
+-- THE SHA-256 of any bytes m, into the buffer o: by it a host tells a stored ledger that is torn
+unfoldable pub hashAnswer : List ℕ → Answer
+hashAnswer o = cond (isLong 32 o) accepted (wrongLength 6)
+
+unfoldable pub hashAfter : List ℕ → List ℕ → List ℕ
+hashAfter m o = cond (isAccepted (hashAnswer o)) (sha256Of m) o

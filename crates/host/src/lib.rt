@@ -6,7 +6,7 @@ ghost use mathlib.Core.Path.{_≡_};
 ghost use lib.Ieee.{binary64, toBits};
 ghost use Rattle.seal.specs.Judgement.{sealAnswer};
 ghost use Rattle.host.specs.Answers.{codeOf, wrongLength};
-ghost use Rattle.host.specs.Ledgers.{openAnswer, openLedger, openRoll, judgeAnswer, judgeLedger, judgeTable, closeAnswer, closeLedger, closeRoll, rootAnswer, rootAfter};
+ghost use Rattle.host.specs.Ledgers.{openAnswer, openLedger, openRoll, judgeAnswer, judgeLedger, judgeTable, closeAnswer, closeLedger, closeRoll, rootAnswer, rootAfter, hashAnswer, hashAfter};
 ghost use Rattle.host.specs.Bags.{handed, bodyAnswer, pullAfter, ownAnswer, bagAnswer, bagLedger, bagTable, answersOf, reportOf, bagReport};
 ghost use Rattle.host.specs.Books.{tallyIn, tallyBytes, tallyAnswer, tallyAfter, dayRow, dayAnswer, dayAfter};
 use bag::Scanned;
@@ -99,6 +99,20 @@ pub extern "C" fn snaldrek_proved_root(ledger: &[u8], root: &mut [u8]) -> u32
     let tree = kept.tree;
     let now = tree.root();
     octets::copy_in(root, 0, &now);
+    code(Answer::accepted())
+}
+
+// The SHA-256 of any bytes, by which a host tells a stored ledger that is torn.
+#[no_mangle]
+pub extern "C" fn snaldrek_proved_hash(bytes: &[u8], digest: &mut [u8]) -> u32
+    ensures { λ r. ⌜ r ≡ codeOf (hashAnswer (now (digest .entry))) ⌝ }
+    ensures { λ _. ⌜ now (digest .exit) ≡ hashAfter (now (bytes .entry)) (now (digest .entry)) ⌝ }
+{
+    if digest.len() != 32 {
+        return code(Answer::refused(51, 6));
+    }
+    let sum = sha256::hash(bytes);
+    octets::copy_in(digest, 0, &sum);
     code(Answer::accepted())
 }
 

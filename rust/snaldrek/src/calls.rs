@@ -38,6 +38,12 @@ mod header {
             root: *mut u8,
             root_len: usize,
         ) -> u32;
+        pub fn snaldrek_hash(
+            bytes: *const u8,
+            bytes_len: usize,
+            digest: *mut u8,
+            digest_len: usize,
+        ) -> u32;
         pub fn snaldrek_seal(
             body: *const u8,
             body_len: usize,
@@ -133,6 +139,20 @@ pub fn root(ledger: &[u8], root: &mut [u8]) -> u32 {
     // SAFETY: both pointers come with the length of the slice they are of; the
     // one that is written to is of a `&mut` slice.
     unsafe { header::snaldrek_root(ledger.as_ptr(), ledger.len(), root.as_mut_ptr(), root.len()) }
+}
+
+/// `snaldrek_hash`: the SHA-256 of any bytes.
+pub fn hash(bytes: &[u8], digest: &mut [u8]) -> u32 {
+    // SAFETY: both pointers come with the length of the slice they are of; the
+    // one that is written to is of a `&mut` slice.
+    unsafe {
+        header::snaldrek_hash(
+            bytes.as_ptr(),
+            bytes.len(),
+            digest.as_mut_ptr(),
+            digest.len(),
+        )
+    }
 }
 
 /// `snaldrek_seal`.

@@ -39,6 +39,8 @@ pub enum Buffer {
     Tally,
     /// Place 5.
     Pull,
+    /// Place 6.
+    Digest,
 }
 
 /// Why something was refused: a variant for each number, with its place.
@@ -271,6 +273,7 @@ impl Buffer {
             3 => Some(Buffer::Report),
             4 => Some(Buffer::Tally),
             5 => Some(Buffer::Pull),
+            6 => Some(Buffer::Digest),
             _ => None,
         }
     }
@@ -282,6 +285,7 @@ impl Buffer {
             Buffer::Report => 3,
             Buffer::Tally => 4,
             Buffer::Pull => 5,
+            Buffer::Digest => 6,
         }
     }
 }
@@ -289,7 +293,7 @@ impl Buffer {
 /// Number, place and words of each refusal, as docs/REFUSALS.md has them. Those
 /// of 1 and 3 also say what they mean where no case was judged.
 #[rustfmt::skip]
-const WORDS: [(u8, u8, &str); 39] = [
+const WORDS: [(u8, u8, &str); 40] = [
     (1, 0, "the case has not 4,210 bytes (opening: the roll has no row)"),
     (2, 0, "the ledger is damaged"),
     (3, 0, "fewer than two nullifier rows are free (closing: no roll row is)"),
@@ -325,6 +329,7 @@ const WORDS: [(u8, u8, &str); 39] = [
     (51, 3, "the report's buffer has not 32 bytes"),
     (51, 4, "the tally's buffer has not 12 bytes"),
     (51, 5, "the pull's buffer has not 8 bytes"),
+    (51, 6, "the digest's buffer has not 32 bytes"),
     (52, 0, "the tally is full: seen, or the count that would be raised, is at its most"),
     (53, 0, "the day list has no such row"),
     (54, 0, "what is to be entered in the day list is no answer"),

@@ -61,6 +61,24 @@ fn a_root_of_another_length_is_refused() {
 }
 
 #[test]
+fn a_digest_of_another_length_is_refused() {
+    for length in WRONG_32 {
+        let mut digest = filled(length);
+        assert_eq!(calls::hash(b"abc", &mut digest), code(6));
+        assert_untouched(&[&digest]);
+    }
+}
+
+#[test]
+fn a_digest_is_that_of_the_second_judge() {
+    for length in [0, 1, 55, 56, 63, 64, 65, 119, 120, 4_210, 99_308] {
+        let (message, mut digest) = (filled(length), [0; 32]);
+        assert_eq!(calls::hash(&message, &mut digest), 0);
+        assert_eq!(digest, second::sha256::sha256(&message));
+    }
+}
+
+#[test]
 fn a_report_of_another_length_is_refused() {
     for length in WRONG_32 {
         let (mut ledger, mut table, roll) = (filled(LEDGER_BYTES), filled(64), filled(64));

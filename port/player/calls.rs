@@ -5,6 +5,7 @@ use second::bag::read_bag;
 use second::judge::judge as judge_case;
 use second::ledger::Ledger;
 use second::seal::{judge_seal, Calibration, Seal};
+use second::sha256::sha256;
 use second::tape::{plant_body, read_plant};
 
 use crate::host;
@@ -15,7 +16,8 @@ pub struct Calls {
     pub judge: fn(&[u8], &mut [u8], &mut [u8], &[u8]) -> u32,
     pub close: fn(&mut [u8], &[u8], &mut [u8]) -> u32,
     pub root: fn(&[u8], &mut [u8]) -> u32,
-    pub seal: fn(&[u8], f64, f64, &mut f64) -> u32,
+    pub hash: fn(&[u8], &mut [u8]) -> u32,
+    pub seal: fn(&[u8], f64, f64, &mut [u8]) -> u32,
     pub bag: fn(&[u8], f64, f64, &mut [u8], &mut [u8], &[u8], &mut [u8]) -> u32,
     pub tally: fn(&mut [u8], u32) -> u32,
     pub day: fn(&mut [u8], usize, u32, u32) -> u32,
@@ -23,18 +25,19 @@ pub struct Calls {
 
 /// The port's own.
 pub const PORT: Calls = Calls {
-    open: host::snaldrek_open,
-    judge: host::snaldrek_judge,
-    close: host::snaldrek_close,
-    root: host::snaldrek_root,
-    seal: host::snaldrek_seal,
-    bag: host::snaldrek_bag,
-    tally: host::snaldrek_tally,
-    day: host::snaldrek_day,
+    open: host::snaldrek_proved_open,
+    judge: host::snaldrek_proved_judge,
+    close: host::snaldrek_proved_close,
+    root: host::snaldrek_proved_root,
+    hash: host::snaldrek_proved_hash,
+    seal: host::snaldrek_proved_seal,
+    bag: host::snaldrek_proved_bag,
+    tally: host::snaldrek_proved_tally,
+    day: host::snaldrek_proved_day,
 };
 
 /// The same by the second judge.
-pub const SECOND: Calls = Calls { open, judge, close, root, seal, bag, tally, day };
+pub const SECOND: Calls = Calls { open, judge, close, root, hash, seal, bag, tally, day };
 
 pub const LEDGER_BYTES: usize = 988;
 
@@ -110,10 +113,21 @@ fn root(ledger: &[u8], root: &mut [u8]) -> u32 {
     0
 }
 
-fn seal(body: &[u8], gain: f64, offset: f64, pull: &mut f64) -> u32 {
+fn hash(bytes: &[u8], digest: &mut [u8]) -> u32 {
+    if digest.len() != 32 {
+        return wrong_length(6);
+    }
+    digest.copy_from_slice(&sha256(bytes));
+    0
+}
+
+fn seal(body: &[u8], gain: f64, offset: f64, pull: &mut [u8]) -> u32 {
+    if pull.len() != 8 {
+        return wrong_length(5);
+    }
     match seal_answer(Seal::read(body), gain, offset) {
         Ok(passed) => {
-            *pull = passed;
+            pull.copy_from_slice(&passed.to_le_bytes());
             0
         }
         Err(refusal) => code(refusal),
@@ -154,6 +168,9 @@ fn tally(tally: &mut [u8], answer: u32) -> u32 {
 
 fn day(list: &mut [u8], row: usize, seal: u32, answer: u32) -> u32 {
     let Some(entry) = list.chunks_exact_mut(6).nth(row) else { return 53 };
+    if answer > 0xffff {
+        return 54;
+    }
     entry[..4].copy_from_slice(&seal.to_le_bytes());
     entry[4..].copy_from_slice(&(answer as u16).to_le_bytes());
     0

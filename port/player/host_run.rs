@@ -133,11 +133,19 @@ impl Run<'_> {
 
     /// The lent pull is also a NaN that no sum gives, to see that a refusal leaves its very bits.
     fn seal(&mut self, body: &[u8], [gain, offset]: [f64; 2]) {
-        for lent in [0x3fd0_0000_0000_0000, 0x7ff8_0000_0000_0abc] {
-            let mut pull = f64::from_bits(lent);
-            let answer = (self.calls.seal)(body, gain, offset, &mut pull);
-            self.tell("seal", answer, &[&pull.to_bits().to_le_bytes()]);
+        for lent in [0x3fd0_0000_0000_0000_u64, 0x7ff8_0000_0000_0abc] {
+            for length in [8, 7] {
+                let mut pull = lent.to_le_bytes();
+                let answer = (self.calls.seal)(body, gain, offset, &mut pull[..length]);
+                self.tell("seal", answer, &[&pull]);
+            }
         }
+    }
+
+    fn hash(&mut self, bytes: &[u8], length: usize) {
+        let mut digest = vec![7; length];
+        let answer = (self.calls.hash)(bytes, &mut digest);
+        self.tell("hash", answer, &[&digest]);
     }
 
     fn bag(&mut self, bag: &[u8], [gain, offset]: [f64; 2], m: &mut Memory) {
@@ -266,14 +274,22 @@ impl Run<'_> {
                 self.tell("tally", answer, &[&tally]);
             }
         }
+        for length in [0, 31, 32, 33] {
+            for bytes in [0, 55, 56, 64, 200] {
+                self.hash(&vec![9; bytes], length);
+            }
+        }
         for length in [0, 5, 6, 7, 11, 12, 13, 18, 25] {
             let mut tally = vec![7; length];
             let answer = (self.calls.tally)(&mut tally, 0);
             self.tell("tally", answer, &[&tally]);
             for row in [0, 1, 2, 3, 4, 1 << 32, usize::MAX / 6, usize::MAX / 6 + 1, usize::MAX] {
-                let mut list = vec![7; length];
-                let answer = (self.calls.day)(&mut list, row, 0x0403_0201, 0x1_0208);
-                self.tell("day", answer, &[&list]);
+                let list = vec![7; length];
+                for answer in [0x0208, 0xffff, 0x1_0000, 0x1_0208] {
+                    let mut list = list.clone();
+                    let answer = (self.calls.day)(&mut list, row, 0x0403_0201, answer);
+                    self.tell("day", answer, &[&list]);
+                }
             }
         }
     }

@@ -30,7 +30,7 @@ fn folder_of_library() -> Result<PathBuf, String> {
         .ok_or("SNALDREK_LIB is not set; it has to name the folder of libsnaldrek.a")?;
     if !folder.is_absolute() {
         return Err(format!(
-            "SNALDREK_LIB={} is no path from the root",
+            "SNALDREK_LIB={} is no absolute path",
             folder.display()
         ));
     }

@@ -230,6 +230,16 @@ fn lengths_up_to_the_limits_are_taken() {
 }
 
 #[test]
+fn a_name_is_a_line_of_its_own() {
+    assert_eq!(play(&entry(b'N', b"a-name")), ["run a-name"]);
+    let longest = "-".repeat(100);
+    assert_eq!(
+        play(&entry(b'N', longest.as_bytes())),
+        [format!("run {longest}")]
+    );
+}
+
+#[test]
 fn broken_entries_end_the_run() {
     let plant = plant_body(&Ledger::zeroed(vec![0; 10], vec![0; 10]));
     let broken = [
@@ -243,8 +253,9 @@ fn broken_entries_end_the_run() {
         entry(b'O', &[]),
         entry(b'O', &[0; 7]),
         entry(b'O', &[0; 9]),
-        opening(65_568, 32),
-        opening(32, 32_800),
+        opening(65_632, 32),
+        opening(32, 32_864),
+        entry(b'N', &[b'-'; 101]),
         entry(b'S', &[0; 40]),
         entry(b'S', &[0; 42]),
         entry(b'P', &[]),

@@ -26,8 +26,8 @@ fn word(s: &[u8], at: usize) -> u64
     )
 }
 
-// How the row of a at index i stands to the row of b at index j, word after word. For the modules of this
-// crate alone, which know that the rows are there; so are the two below.
+// How the row of a at index i stands to the row of b at index j, word after word. For this crate alone,
+// whose other modules know that both rows are there.
 pub fn compare_words(a: &[u8], i: usize, b: &[u8], j: usize) -> Order
     requires { ⌜ i + 32 ≤ length (now a) ⌝ }
     requires { ⌜ j + 32 ≤ length (now b) ⌝ }
@@ -46,8 +46,8 @@ pub fn compare_words(a: &[u8], i: usize, b: &[u8], j: usize) -> Order
     Order::Equal
 }
 
-// The same. Of two rows of hashes the first words nearly always decide: they are compared here, in few
-// enough instructions to be compiled into a caller's loop.
+// The same, and for this crate alone too. Of two rows of hashes the first words nearly always decide: they
+// are compared here, in few enough instructions to be compiled into a caller's loop.
 pub fn compare(a: &[u8], i: usize, b: &[u8], j: usize) -> Order
     requires { ⌜ i + 32 ≤ length (now a) ⌝ }
     requires { ⌜ j + 32 ≤ length (now b) ⌝ }
@@ -64,7 +64,8 @@ pub fn compare(a: &[u8], i: usize, b: &[u8], j: usize) -> Order
     compare_words(a, i, b, j)
 }
 
-// Whether the row of a at index i is below the row of b at index j; by the first words where they decide.
+// Whether the row of a at index i is below the row of b at index j; by the first words where they decide. For
+// this crate alone, as the two above.
 pub fn is_below(a: &[u8], i: usize, b: &[u8], j: usize) -> bool
     requires { ⌜ i + 32 ≤ length (now a) ⌝ }
     requires { ⌜ j + 32 ≤ length (now b) ⌝ }

@@ -200,3 +200,12 @@ fn opening_is_alike() {
     }
     assert_eq!(Ledger::open(8, 0), Err(Refusal::WrongLength));
 }
+
+#[test]
+fn a_digest_is_the_second_judges() {
+    for length in [0, 1, 55, 56, 63, 64, 65, 119, 120, 4_210, 99_308] {
+        let (message, mut digest) = (vec![0x5a; length], [0; 32]);
+        assert_eq!(calls::hash(&message, &mut digest), 0);
+        assert_eq!(digest, second::sha256::sha256(&message));
+    }
+}

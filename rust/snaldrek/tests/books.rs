@@ -1,6 +1,5 @@
 //! The tally and the day list against plain counts.
 
-use second::random::Random;
 use snaldrek::{calls, Answer, DayList, DayRow, Pair, Refusal, Tally};
 
 /// A tally as three numbers.
@@ -27,16 +26,15 @@ fn counted([seen, passed, refused]: [u32; 3], answer: Answer) -> Option<[u32; 3]
 
 #[test]
 fn a_tally_counts_as_the_rules_say() {
-    let mut random = Random::new(1);
     let near = [0, 1, 7, u32::MAX - 1, u32::MAX];
     let answers = [
         Ok(()),
         Err(Refusal::AlreadySpent(Pair::First)),
         Err(Refusal::NoFreeRow),
     ];
-    for _ in 0..2_000 {
-        let before = [0; 3].map(|_| *random.pick(&near));
-        let answer = *random.pick(&answers);
+    for turn in 0..5 * 5 * 5 * 3 {
+        let before = [near[turn % 5], near[turn / 5 % 5], near[turn / 25 % 5]];
+        let answer = answers[turn / 125];
         let mut tally = tally_of(before);
         match counted(before, answer) {
             Some(after) => {
@@ -68,7 +66,11 @@ fn a_shift_is_counted() {
 
 #[test]
 fn entering_a_row_changes_that_row_alone() {
-    let mut random = Random::new(2);
+    let answers = [
+        Ok(()),
+        Err(Refusal::RhoWrong(Pair::Second)),
+        Err(Refusal::LedgerDamaged),
+    ];
     let mut list = DayList::with_rows(40);
     let mut rows = vec![
         DayRow {
@@ -77,14 +79,11 @@ fn entering_a_row_changes_that_row_alone() {
         };
         40
     ];
-    for _ in 0..2_000 {
-        let row = random.below(44);
-        let seal = random.u64() as u32;
-        let answer = *random.pick(&[
-            Ok(()),
-            Err(Refusal::RhoWrong(Pair::Second)),
-            Err(Refusal::LedgerDamaged),
-        ]);
+    for turn in 0..2_000 {
+        // 13 and 44 have no divisor in common, so every row has its turn, with each answer.
+        let row = 13 * turn % 44;
+        let seal = (turn as u32).wrapping_mul(2_654_435_761);
+        let answer = answers[turn % 3];
         let expected = if row < 40 {
             Ok(())
         } else {
@@ -125,11 +124,23 @@ fn an_unnamed_answer_is_a_refusal_in_both_books() {
         assert_eq!(tally.count(answer), Ok(()));
         assert_eq!(counts(&tally), [1, 0, 1]);
         let (entered, found) = match code {
-            0..=0xffff => (Ok(()), answer),
+            0x2a | 0xff01 => (Ok(()), answer),
             _ => (Err(Refusal::NoAnswer), Err(Refusal::NotGiven)),
         };
         assert_eq!(list.enter(0, 7, answer), entered);
         assert_eq!(list.row(0).map(|row| row.answer), Some(found));
+    }
+}
+
+/// A row whose number is 0 would be read as a pass.
+#[test]
+fn a_refusal_without_a_number_is_not_entered() {
+    for place in 1..=255 {
+        let answer = Refusal::answer(256 * place);
+        let mut list = DayList::with_rows(1);
+        assert_eq!(list.enter(0, 7, answer), Err(Refusal::NoAnswer));
+        assert_eq!(list.enter(1, 7, answer), Err(Refusal::NoSuchRow));
+        assert_eq!(list, DayList::with_rows(1));
     }
 }
 

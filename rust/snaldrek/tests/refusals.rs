@@ -6,7 +6,7 @@ use snaldrek::Refusal;
 /// The rows of docs/REFUSALS.md: number, place, words. Only programs play
 /// tapes, so 50 is left out.
 fn rows() -> Vec<(u32, u32, &'static str)> {
-    let table = include_str!("../../../docs/REFUSALS.md");
+    let table = include_str!("../REFUSALS.md");
     let rows = table.lines().filter_map(|line| {
         let mut cells = line.strip_prefix("| ")?.strip_suffix(" |")?.split(" | ");
         let number = cells.next()?.parse().ok()?;

@@ -30,7 +30,7 @@ static void print_cases_and_ledger(void)
            snaldrek_ledger_leaves(ledger), snaldrek_ledger_pool(ledger));
 }
 
-/* Says what failed, and gives the exit status for it. */
+/* Says what could not be read, and gives the exit status for it. */
 static int failed(const char *what)
 {
     perror(what);
@@ -58,7 +58,9 @@ int main(int argc, char **argv)
     print_answer(SNALDREK_NUMBER(answer) == SNALDREK_LAYOUT_BROKEN ? "bag" : "seal", answer);
     if (answer == SNALDREK_ACCEPTED)
         print_cases_and_ledger();
-    if (fflush(stdout) != 0 || ferror(stdout))
-        return failed("standard output");
+    if (fflush(stdout) != 0 || ferror(stdout)) {
+        perror("standard output");
+        return 1;
+    }
     return 0;
 }

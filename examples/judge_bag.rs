@@ -9,13 +9,15 @@ use std::process::ExitCode;
 use snaldrek::{Answer, Calibration, Ledger, Refusal, MAX_ANCHORS, MAX_SPENT};
 
 fn main() -> ExitCode {
-    match read_bag().and_then(|bag| judge(&bag, &mut io::stdout().lock())) {
-        Ok(()) => ExitCode::SUCCESS,
-        Err(error) => {
-            eprintln!("judge_bag: {error}");
-            ExitCode::from(2)
-        }
-    }
+    let (error, status) = match read_bag() {
+        Err(error) => (error, 2),
+        Ok(bag) => match judge(&bag, &mut io::stdout().lock()) {
+            Err(error) => (error, 1),
+            Ok(()) => return ExitCode::SUCCESS,
+        },
+    };
+    eprintln!("judge_bag: {error}");
+    ExitCode::from(status)
 }
 
 fn judge(bag: &[u8], out: &mut impl Write) -> io::Result<()> {

@@ -28,11 +28,17 @@
 static uint8_t slot[SLOT], other[SLOT];
 static uint8_t bag[SNALDREK_BAG_MAX_BYTES + 1];
 
-/* Says what failed, and gives the exit status for it. */
+/* Say what failed, and give the exit status for it. */
 static int failed(const char *what)
 {
     perror(what);
     return 2;
+}
+
+static int not_printed(void)
+{
+    perror("standard output");
+    return 1;
 }
 
 static void put_64(uint8_t *at, uint64_t number)
@@ -125,8 +131,8 @@ static int make(const char *name)
     return done ? 0 : -1;
 }
 
-/* Judges the bag's cases on the stored ledger. The bag's layout was found sound. */
-static int judge_cases(int file)
+/* Judges the bag's cases on the stored ledger, and gives the exit status. The bag's layout was found sound. */
+static int judge_cases(int file, const char *name)
 {
     uint32_t i, rows = (uint32_t)bag[0];
     for (i = 1; i < rows; i++) {
@@ -135,14 +141,14 @@ static int judge_cases(int file)
                                          SNALDREK_LEDGER_BYTES, slot + TABLE, SNALDREK_TABLE_MAX_BYTES, slot + ROLL,
                                          SNALDREK_ROLL_MAX_BYTES);
         if (answer == SNALDREK_ACCEPTED && store(file) != 0)
-            return -1;
+            return failed(name);
         printf("case %u %u\n", SNALDREK_NUMBER(answer), SNALDREK_PLACE(answer));
         if (fflush(stdout) != 0)
-            return -1;
+            return not_printed();
     }
     printf("ledger spent %" PRIu64 " leaves %" PRIu32 " pool %" PRId64 "\n", snaldrek_ledger_spent(slot + LEDGER),
            snaldrek_ledger_leaves(slot + LEDGER), snaldrek_ledger_pool(slot + LEDGER));
-    return fflush(stdout);
+    return fflush(stdout) != 0 ? not_printed() : 0;
 }
 
 /* The bag's own answer, its cases judged on a ledger that is thrown away. */
@@ -168,7 +174,7 @@ int main(int argc, char **argv)
     answer = bags_answer(length);
     if (answer != SNALDREK_ACCEPTED) {
         printf("bag %u %u\n", SNALDREK_NUMBER(answer), SNALDREK_PLACE(answer));
-        return fflush(stdout) != 0 ? failed("standard output") : 0;
+        return fflush(stdout) != 0 ? not_printed() : 0;
     }
     if (access(argv[1], F_OK) != 0 && make(argv[1]) != 0)
         return failed(argv[1]);
@@ -178,5 +184,5 @@ int main(int argc, char **argv)
         fprintf(stderr, "%s: neither slot checks\n", argv[1]);
         return 2;
     }
-    return judge_cases(file) != 0 ? failed(argv[1]) : 0;
+    return judge_cases(file, argv[1]);
 }

@@ -113,44 +113,59 @@ fn cases(bag: &[u8]) -> io::Result<Vec<&[u8]>> {
         .collect())
 }
 
-fn judge(store: &Path, bag: &[u8]) -> io::Result<()> {
-    let cases = cases(bag)?;
+/// Which of the two went wrong: 2 for what is read or stored, 1 for a line that
+/// cannot be written.
+type Failed = (io::Error, u8);
+
+fn unprinted(error: io::Error) -> Failed {
+    (error, 1)
+}
+
+fn unkept(error: io::Error) -> Failed {
+    (error, 2)
+}
+
+fn judge(store: &Path, bag: &[u8]) -> Result<(), Failed> {
+    let cases = cases(bag).map_err(unkept)?;
     if !store.exists() {
-        make(store)?;
+        make(store).map_err(unkept)?;
     }
-    let file = OpenOptions::new().read(true).write(true).open(store)?;
-    let mut kept = Kept::load(&file)?;
+    let file = OpenOptions::new().read(true).write(true).open(store);
+    let file = file.map_err(unkept)?;
+    let mut kept = Kept::load(&file).map_err(unkept)?;
     let mut out = io::stdout().lock();
     for case in cases {
         let (number, place) = match kept.ledger.judge(case) {
             Ok(()) => {
-                kept.store(&file)?;
+                kept.store(&file).map_err(unkept)?;
                 (0, 0)
             }
             Err(refusal) => (refusal.number(), refusal.place()),
         };
-        writeln!(out, "case {number} {place}")?;
+        writeln!(out, "case {number} {place}").map_err(unprinted)?;
     }
     let (spent, leaves, pool) = (
         kept.ledger.spent(),
         kept.ledger.leaves(),
         kept.ledger.pool(),
     );
-    writeln!(out, "ledger spent {spent} leaves {leaves} pool {pool}")?;
-    out.flush()
+    writeln!(out, "ledger spent {spent} leaves {leaves} pool {pool}").map_err(unprinted)?;
+    out.flush().map_err(unprinted)
 }
 
 fn main() -> ExitCode {
     let names: Vec<_> = std::env::args_os().skip(1).collect();
     let done = match &names[..] {
-        [store, bag] => fs::read(bag).and_then(|bag| judge(Path::new(store), &bag)),
-        _ => Err(io::Error::other("keep_ledger STORE BAG")),
+        [store, bag] => fs::read(bag)
+            .map_err(unkept)
+            .and_then(|bag| judge(Path::new(store), &bag)),
+        _ => Err(unkept(io::Error::other("keep_ledger STORE BAG"))),
     };
     match done {
         Ok(()) => ExitCode::SUCCESS,
-        Err(error) => {
+        Err((error, status)) => {
             eprintln!("keep_ledger: {error}");
-            ExitCode::from(2)
+            ExitCode::from(status)
         }
     }
 }

@@ -281,6 +281,8 @@ def lengths():
         "case 0 0",
         "ledger spent 2 leaves 2 pool 3",
     ]
+    # Short of the anchor's end, at it, and of a length whose low byte is that of 4,210. A case of no bytes is in "refusals".
+    yield "cases-cut-short", bag(OPEN, whole[:47], whole[:48], whole[:4210 % 256]), ["seal 0 0", *["case 1 0"] * 3, EMPTY]
 
 
 def layouts():
@@ -304,9 +306,10 @@ def layouts():
     yield "length-that-wraps", table((1, 29, 25), (2, 54, 2 ** 32 - 4), (2, 50, 10)) + bodies, BROKEN
     yield "ends-inside-the-table", table((1, 29, 25), (2, 54, 3), (2, 57, 3))[:-1], BROKEN  # the bag ends inside its table
     yield "count-high-byte-first", b"\x00\x03" + bag(OPEN, b"abc", b"xyz")[2:], BROKEN  # the count with its high byte first: 768
-    # Every row but the first is a case: kind 1 and kind 0 are none, wherever they stand.
-    for row in range(2, 8):
-        for kind in (0, 1):
+    # The first row is a seal and every other one a case: no other kind will do, wherever it stands.
+    for row in range(8):
+        right = 1 if row == 0 else 2
+        for kind in (0, 3 - right, 3, right + 128):
             rows = [(1, 74, 25)] + [(2, 99 + i, 1) for i in range(7)]
             rows[row] = (kind, *rows[row][1:])
             yield f"kind-{kind}-in-row-{row + 1}", table(*rows) + OPEN + b"-" * 7, BROKEN
@@ -344,6 +347,13 @@ def seals():
         ("next-below-zero", seal(1, -5e-324, low=0.0), ["seal 23 0"]),  # the number next below zero
     ]:
         yield name, bag(body, b""), lines
+    # An unused limit is eight zero bytes, and each of them counts: a reader of fewer bytes lets one of these pass.
+    for name, body, unused in [
+        ("none", seal(0, 45.0), range(1, 17)),
+        ("at-least", seal(1, 45.0, low=40.0), range(9, 17)),
+    ]:
+        for at in unused:
+            yield f"{name}-with-byte-{at}", bag(with_byte_changed(body, at), b""), BROKEN
 
 
 def refused_cases():

@@ -3,7 +3,7 @@
 -- Assumes nothing.
 use Prim.Native.Nat.{ℕ, _+_, _≤_}
 use mathlib.Core.Path.{_≡_, refl, sym, ap, subst, _∙_}
-use mathlib.Core.Bool.{Bool, true, false}
+use mathlib.Core.Bool.{Bool, true, false, cond}
 use mathlib.Core.List.{List, _++_}
 use native.Mathlib.Omega.{arith}
 use lib.Dec.{eqb, leb}
@@ -27,7 +27,7 @@ use Rattle.ledgerbytes.specs.Keeping.{ledgerOf}
 use Rattle.judge.specs.Judging.{tableAfter, judgedOf}
 use Rattle.replay.specs.declared.State.{State}
 use Rattle.replay.specs.declared.Ran.{Ran}
-use Rattle.replay.specs.Tape.{Turn, turn, goesOn, nothing, brokenTurn, longest, canLend, openOn, openIf, openTurn, plantOn, plantIf, plantTurn, caseOn, caseTurn, blockOn, blockTurn, Within, Plays}
+use Rattle.replay.specs.Tape.{Turn, turn, goesOn, nothing, brokenTurn, longest, canLend, lends, openOn, openTurn, plantOn, plantTurn, caseOn, caseTurn, blockOn, blockTurn, Within, Plays}
 
 -- the same turn by another name
 pub plays-as : {u v : Turn} {t r x x′ : List ℕ} {a : Ran} → u ≡ v → Plays u t r x x′ a → Plays v t r x x′ a
@@ -59,6 +59,12 @@ pub lent-roll : {b : Bool} (w : Bool) (n m table roll : ℕ) → b ≡ canLend w
 unfolding canLend
 lent-roll w n m table roll h k = leb-true m roll (and-both (leb n table) (leb m roll) (and-both w _ (sym h ∙ k) .1) .1)
 
+-- whether it lends them decides its turn. n and m are what was read of its body
+pub lends-by : (whole : ℕ → ℕ → Bool) (u : ℕ → ℕ → Turn) (t r : List ℕ) {n m n′ m′ : ℕ} {b d : Bool} → n ≡ n′ → m ≡ m′
+    → b ≡ canLend (whole n m) n m (length t) (length r) → b ≡ d → cond d (u n m) (brokenTurn t r) ≡ lends whole u n′ m′ t r
+unfolding lends
+lends-by whole u t r hn hm hb h = rw (sym hn, sym hm, sym h ∙ hb)
+
 still : (n : ℕ) (p t : List ℕ) → length p ≡ n → n ≤ length (p ++ drop n t)
 still n p t h = omega (arith, length-append p (drop n t))
 
@@ -68,22 +74,13 @@ pub open-plays : (body t r p q x x′ : List ℕ) (n m e : ℕ) (b : Bool) (a : 
     → a .ledger ≡ openedOf (zeros (length (take m r))) → p ≡ zeros (length (take n t)) → q ≡ rollAfterOpen (zeros (length (take m r))) → length q ≡ length (take m r)
     → Wrote 47 (answerLine (ascii "open") (a .answer)) (pen x 0) (pen x′ e) → s ≡ goesOn (a .ledger) n m
     → Plays (openTurn body t r) (p ++ drop n t) (q ++ drop m r) x x′ (record { state = s; end = e })
-unfolding openTurn openIf openOn
+unfolding openTurn openOn
 open-plays body t r p q x x′ n m e b a s hn hm hb h ha hl hp hq hk w hs =
     let i : length (take n t) ≡ n = length-take-le n t (lent-table _ n m _ _ hb h) in
     let j : length (take m r) ≡ m = length-take-le m r (lent-roll _ n m _ _ hb h) in
-    let k : openIf n m body t r ≡ openTurn body t r = rw (hn, hm) in
-    let d : openOn n m t r ≡ openIf n m body t r = rw (sym hb ∙ h) in
+    let d : openOn n m t r ≡ openTurn body t r = lends-by _ _ t r hn hm hb h in
     let v : turn (goesOn (a .ledger) n m) (p ++ drop n t) (q ++ drop m r) (answerLine (ascii "open") (a .answer)) ≡ openOn n m t r = rw (ha, hl, hp, hq, i, j) in
-    plays-as (v ∙ d ∙ k) (plays (omega arith) hs (record { table = still n p t (ap length hp ∙ zeros-length _ ∙ i); roll = still m q r (hk ∙ j) }) w)
-
-pub open-broken : (body t r x x′ : List ℕ) (n m : ℕ) (b : Bool) (a : Ran) → n ≡ little (field 0 4 body) → m ≡ little (field 4 4 body)
-    → b ≡ canLend (eqb (length body) 8) n m (length t) (length r) → b ≡ false → Plays (brokenTurn t r) t r x x′ a → Plays (openTurn body t r) t r x x′ a
-unfolding openTurn openIf
-open-broken body t r x x′ n m b a hn hm hb h p =
-    let k : openIf n m body t r ≡ openTurn body t r = rw (hn, hm) in
-    let d : brokenTurn t r ≡ openIf n m body t r = rw (sym hb ∙ h) in
-    plays-as (d ∙ k) p
+    plays-as (v ∙ d) (plays (omega arith) hs (record { table = still n p t (ap length hp ∙ zeros-length _ ∙ i); roll = still m q r (hk ∙ j) }) w)
 
 -- P
 pub plant-plays : (body t r p q x x′ : List ℕ) (n m e : ℕ) (b : Bool) (a : Answer) (l : Ledger) (s : State) → n ≡ little (field 988 4 body)
@@ -91,22 +88,13 @@ pub plant-plays : (body t r p q x x′ : List ℕ) (n m e : ℕ) (b : Bool) (a :
     → p ≡ field 996 (length (take n t)) body → q ≡ field (996 + n) (length (take m r)) body → a ≡ accepted → l ≡ ledgerOf body
     → Wrote 48 (answerLine (ascii "plant") a) (pen x 0) (pen x′ e) → s ≡ goesOn l n m
     → Plays (plantTurn body t r) (p ++ drop n t) (q ++ drop m r) x x′ (record { state = s; end = e })
-unfolding plantTurn plantIf plantOn
+unfolding plantTurn plantOn
 plant-plays body t r p q x x′ n m e b a l s hn hm hb h hp hq ha hl w hs =
     let i : length (take n t) ≡ n = length-take-le n t (lent-table _ n m _ _ hb h) in
     let j : length (take m r) ≡ m = length-take-le m r (lent-roll _ n m _ _ hb h) in
-    let k : plantIf n m body t r ≡ plantTurn body t r = rw (hn, hm) in
-    let d : plantOn n m body t r ≡ plantIf n m body t r = rw (sym hb ∙ h) in
+    let d : plantOn n m body t r ≡ plantTurn body t r = lends-by _ _ t r hn hm hb h in
     let v : turn (goesOn l n m) (p ++ drop n t) (q ++ drop m r) (answerLine (ascii "plant") a) ≡ plantOn n m body t r = rw (ha, hl, hp, hq, i, j) in
-    plays-as (v ∙ d ∙ k) (plays (omega arith) hs (record { table = still n p t (ap length hp ∙ field-length 996 _ body ∙ i); roll = still m q r (ap length hq ∙ field-length (996 + n) _ body ∙ j) }) w)
-
-pub plant-broken : (body t r x x′ : List ℕ) (n m : ℕ) (b : Bool) (a : Ran) → n ≡ little (field 988 4 body) → m ≡ little (field 992 4 body)
-    → b ≡ canLend (eqb (length body) (996 + n + m)) n m (length t) (length r) → b ≡ false → Plays (brokenTurn t r) t r x x′ a → Plays (plantTurn body t r) t r x x′ a
-unfolding plantTurn plantIf
-plant-broken body t r x x′ n m b a hn hm hb h p =
-    let k : plantIf n m body t r ≡ plantTurn body t r = rw (hn, hm) in
-    let d : brokenTurn t r ≡ plantIf n m body t r = rw (sym hb ∙ h) in
-    plays-as (d ∙ k) p
+    plays-as (v ∙ d) (plays (omega arith) hs (record { table = still n p t (ap length hp ∙ field-length 996 _ body ∙ i); roll = still m q r (ap length hq ∙ field-length (996 + n) _ body ∙ j) }) w)
 
 -- C
 pub case-plays : (body t r p x x′ : List ℕ) (e : ℕ) (z : State) (a : Answered) (s : State) → Within z t r

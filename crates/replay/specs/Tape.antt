@@ -54,28 +54,26 @@ isKind letter kind = eqb kind (getD (ascii letter) 0 0)
 unfoldable pub canLend : Bool → ℕ → ℕ → ℕ → ℕ → Bool
 canLend whole n m table roll = whole && (leb n table && leb m roll)
 
+-- its turn is u where it can lend them
+unfoldable pub lends : (ℕ → ℕ → Bool) → (ℕ → ℕ → Turn) → ℕ → ℕ → List ℕ → List ℕ → Turn
+lends whole u n m t r = cond (canLend (whole n m) n m (length t) (length r)) (u n m) (brokenTurn t r)
+
 -- O OPENS a fresh ledger on zeroed bytes. Body: how many of the table (4) and of the roll (4)
 unfoldable pub openOn : ℕ → ℕ → List ℕ → List ℕ → Turn
 openOn n m t r =
     turn (goesOn (openedOf (zeros m)) n m) (zeros n ++ drop n t) (rollAfterOpen (zeros m) ++ drop m r)
     (answerLine (ascii "open") (first (openTable (zeros m))))
 
-unfoldable pub openIf : ℕ → ℕ → List ℕ → List ℕ → List ℕ → Turn
-openIf n m body t r = cond (canLend (eqb (length body) 8) n m (length t) (length r)) (openOn n m t r) (brokenTurn t r)
-
 unfoldable pub openTurn : List ℕ → List ℕ → List ℕ → Turn
-openTurn body t r = openIf (little (field 0 4 body)) (little (field 4 4 body)) body t r
+openTurn body t r = lends (λ n m. eqb (length body) 8) (λ n m. openOn n m t r) (little (field 0 4 body)) (little (field 4 4 body)) t r
 
 -- P PLANTS any ledger, a damaged one too. Body: the ledger (988), how many bytes of the table (4) and of the roll (4), and those bytes
 unfoldable pub plantOn : ℕ → ℕ → List ℕ → List ℕ → List ℕ → Turn
 plantOn n m body t r =
     turn (goesOn (ledgerOf body) n m) (field 996 n body ++ drop n t) (field (996 + n) m body ++ drop m r) (answerLine (ascii "plant") accepted)
 
-unfoldable pub plantIf : ℕ → ℕ → List ℕ → List ℕ → List ℕ → Turn
-plantIf n m body t r = cond (canLend (eqb (length body) (996 + n + m)) n m (length t) (length r)) (plantOn n m body t r) (brokenTurn t r)
-
 unfoldable pub plantTurn : List ℕ → List ℕ → List ℕ → Turn
-plantTurn body t r = plantIf (little (field 988 4 body)) (little (field 992 4 body)) body t r
+plantTurn body t r = lends (λ n m. eqb (length body) (996 + n + m)) (λ n m. plantOn n m body t r) (little (field 988 4 body)) (little (field 992 4 body)) t r
 
 -- C JUDGES a case, which is the body
 unfoldable pub caseOn : ℕ → ℕ → Ledger → List ℕ → List ℕ → List ℕ → Turn

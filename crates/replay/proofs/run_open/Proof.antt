@@ -1,6 +1,7 @@
 use mathlib.Core.Path.{sym}
 use lib.Seq.{length-take-le}
-use Rattle.replay.proofs.TurnLaws.{plays-broken, lent-table, lent-roll, open-plays, open-broken}
+use Rattle.replay.proofs.TurnLaws.{plays-as, plays-broken, lent-table, lent-roll, lends-by, open-plays}
+use Rattle.replay.specs.Tape.{openTurn}
 use borrow.Author.Needs.{needs}
 use Rattle.replay.proofs.run_open.Statement.{statement}
 use Rattle.replay.proofs.run_open.Tie as tie
@@ -17,13 +18,14 @@ returns c =
     (o .opened .ensures .1 .0) (o .opened .ensures .1 .1 .0) (o .opened .ensures .1 .1 .1) (o .opened .kept .1 .0) (w .put-answer-line .ensures) (c .going-on .ensures)
 
 returns-2 : tie.Need-returns-2
+unfolding openTurn
 returns-2 c =
     let b = c .before .before in
     let i = b .before .before in
     let l = i .before in
     let m = l .before in
     let n = m .before in
-    open-broken _ _ _ _ _ _ _ _ _ (n .le32 .ensures) (m .le322 .ensures) (l .can-lend .ensures) (i .if1 .left) (plays-broken (b .broken .ensures .0) (b .broken .ensures .1))
+    plays-as (lends-by _ _ _ _ (n .le32 .ensures) (m .le322 .ensures) (l .can-lend .ensures) (i .if1 .left)) (plays-broken (b .broken .ensures .0) (b .broken .ensures .1))
 
 slice-relend-prefix-opened : tie.Need-slice-relend-prefix-opened
 slice-relend-prefix-opened c =

@@ -1,7 +1,8 @@
 use Prim.Native.Nat.{ℕ}
 use mathlib.Core.Path.{sym}
 use lib.Seq.{length-take-le, length-front}
-use Rattle.replay.proofs.TurnLaws.{plays-broken, lent-table, lent-roll, plant-plays, plant-broken}
+use Rattle.replay.proofs.TurnLaws.{plays-as, plays-broken, lent-table, lent-roll, lends-by, plant-plays}
+use Rattle.replay.specs.Tape.{plantTurn}
 use borrow.Author.Needs.{needs}
 use Rattle.replay.proofs.run_plant.Statement.{statement}
 use Rattle.replay.proofs.run_plant.Tie as tie
@@ -21,13 +22,14 @@ returns c =
     (q .fill2 .ensures) (a .accepted .ensures) (r .read .ensures) (w .put-answer-line .ensures) (c .going-on .ensures)
 
 returns-2 : tie.Need-returns-2
+unfolding plantTurn
 returns-2 c =
     let b = c .before .before in
     let i = b .before .before in
     let l = i .before in
     let m = l .before in
     let n = m .before in
-    plant-broken _ _ _ _ _ _ _ _ _ (n .le32 .ensures) (m .le322 .ensures) (l .can-lend .ensures) (i .if1 .left) (plays-broken (b .broken .ensures .0) (b .broken .ensures .1))
+    plays-as (lends-by _ _ _ _ (n .le32 .ensures) (m .le322 .ensures) (l .can-lend .ensures) (i .if1 .left)) (plays-broken (b .broken .ensures .0) (b .broken .ensures .1))
 
 slice-relend-prefix-fill : tie.Need-slice-relend-prefix-fill
 slice-relend-prefix-fill c =

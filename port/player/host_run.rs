@@ -120,6 +120,11 @@ impl Run<'_> {
         self.tell("judge", answer, &[&m.ledger, &m.table, &m.roll]);
     }
 
+    fn open(&mut self, m: &mut Memory) {
+        let answer = (self.calls.open)(&mut m.ledger, &mut m.roll);
+        self.tell("open", answer, &[&m.ledger, &m.roll]);
+    }
+
     fn close(&mut self, m: &mut Memory) {
         let answer = (self.calls.close)(&mut m.ledger, &m.table, &mut m.roll);
         self.tell("close", answer, &[&m.ledger, &m.table, &m.roll]);
@@ -176,6 +181,7 @@ impl Run<'_> {
                     self.bag(&write_bag(&seal[16..], &cases), [0, 8].map(|at| float_at(seal, at)), &mut m.clone());
                     self.judge(body, &mut m);
                 }
+                b'F' => self.open(&mut m),
                 b'B' => self.close(&mut m),
                 b'L' => self.root(&m.ledger, 32),
                 b'S' => self.seal(&body[16..], [0, 8].map(|at| float_at(body, at))),
@@ -207,8 +213,7 @@ impl Run<'_> {
             for root in [0, 31, 32, 33] {
                 self.root(&m.ledger, root);
             }
-            let answer = (self.calls.open)(&mut m.ledger, &mut m.roll);
-            self.tell("open", answer, &[&m.ledger, &m.roll]);
+            self.open(&mut m);
         }
         for length in 0..case.len() {
             self.judge(&case[..length], &mut sound.clone());

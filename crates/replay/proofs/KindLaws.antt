@@ -8,7 +8,7 @@ use borrow.Author.Tests.{ne-eqb, le-leb, lt-leb}
 use Rattle.text.specs.Words.{nameLine}
 use Rattle.replay.specs.declared.State.{State}
 use Rattle.replay.specs.Looks.{ledgerText, rowsText, memoryText, sealText}
-use Rattle.replay.specs.Tape.{turn, brokenTurn, openTurn, plantTurn, caseTurn, blockTurn, lookTurn, bareTurn, sealTurn, nameTurn, entryTurn}
+use Rattle.replay.specs.Tape.{turn, brokenTurn, openTurn, plantTurn, caseTurn, freshTurn, blockTurn, lookTurn, bareTurn, sealTurn, nameTurn, entryTurn}
 
 -- a name that is short enough, and one that is not
 module _ (body t r : List ℕ) (s : State) where
@@ -37,13 +37,17 @@ module _ (kind : ℕ) (t r : List ℕ) (s : State) where
   unfolding lookTurn
   look-other a b d = rw (ne-eqb kind 76 a, ne-eqb kind 82 b, ne-eqb kind 77 d)
 
+  pub bare-fresh : kind ≡ 70 → freshTurn t r s ≡ bareTurn kind t r s
+  unfolding bareTurn
+  bare-fresh h = rw h
+
   pub bare-block : kind ≡ 66 → blockTurn t r s ≡ bareTurn kind t r s
   unfolding bareTurn
   bare-block h = rw h
 
-  pub bare-other : (kind ≡ 66 → ⊥) → lookTurn kind t r s ≡ bareTurn kind t r s
+  pub bare-other : (kind ≡ 70 → ⊥) → (kind ≡ 66 → ⊥) → lookTurn kind t r s ≡ bareTurn kind t r s
   unfolding bareTurn
-  bare-other a = rw (ne-eqb kind 66 a)
+  bare-other a b = rw (ne-eqb kind 70 a, ne-eqb kind 66 b)
 
   module _ (body : List ℕ) where
     pub entry-open : kind ≡ 79 → openTurn body t r ≡ entryTurn kind body t r s

@@ -8,7 +8,7 @@ use mathlib.Core.List.{List, _++_}
 use native.Mathlib.Omega.{arith}
 use lib.Dec.{eqb, leb}
 use lib.ListN.{length, take, drop, length-append}
-use lib.Seq.{length-take-le}
+use lib.Seq.{length-take-le, take-at, drop-at}
 use borrow.Author.Tests.{leb-true}
 use Rattle.octets.specs.Numbers.{little}
 use Rattle.octets.specs.Parts.{zeros, field}
@@ -27,7 +27,7 @@ use Rattle.ledgerbytes.specs.Keeping.{ledgerOf}
 use Rattle.judge.specs.Judging.{tableAfter, judgedOf}
 use Rattle.replay.specs.declared.State.{State}
 use Rattle.replay.specs.declared.Ran.{Ran}
-use Rattle.replay.specs.Tape.{Turn, turn, goesOn, nothing, brokenTurn, longest, canLend, lends, openOn, openTurn, plantOn, plantTurn, caseOn, caseTurn, blockOn, blockTurn, Within, Plays}
+use Rattle.replay.specs.Tape.{Turn, turn, goesOn, nothing, brokenTurn, longest, canLend, lends, openOn, openTurn, plantOn, plantTurn, caseOn, caseTurn, freshOn, freshTurn, blockOn, blockTurn, Within, Plays}
 
 -- the same turn by another name
 pub plays-as : {u v : Turn} {t r x x′ : List ℕ} {a : Ran} → u ≡ v → Plays u t r x x′ a → Plays v t r x x′ a
@@ -74,12 +74,14 @@ pub open-plays : (body t r p q x x′ : List ℕ) (n m e : ℕ) (b : Bool) (a : 
     → a .ledger ≡ openedOf (zeros (length (take m r))) → p ≡ zeros (length (take n t)) → q ≡ rollAfterOpen (zeros (length (take m r))) → length q ≡ length (take m r)
     → Wrote 47 (answerLine (ascii "open") (a .answer)) (pen x 0) (pen x′ e) → s ≡ goesOn (a .ledger) n m
     → Plays (openTurn body t r) (p ++ drop n t) (q ++ drop m r) x x′ (record { state = s; end = e })
-unfolding openTurn openOn
+unfolding openTurn openOn freshOn
 open-plays body t r p q x x′ n m e b a s hn hm hb h ha hl hp hq hk w hs =
     let i : length (take n t) ≡ n = length-take-le n t (lent-table _ n m _ _ hb h) in
     let j : length (take m r) ≡ m = length-take-le m r (lent-roll _ n m _ _ hb h) in
     let d : openOn n m t r ≡ openTurn body t r = lends-by _ _ t r hn hm hb h in
-    let v : turn (goesOn (a .ledger) n m) (p ++ drop n t) (q ++ drop m r) (answerLine (ascii "open") (a .answer)) ≡ openOn n m t r = rw (ha, hl, hp, hq, i, j) in
+    let f : take m (zeros m ++ drop m r) ≡ zeros m = take-at (zeros m) (drop m r) m (zeros-length m) in
+    let g : drop m (zeros m ++ drop m r) ≡ drop m r = drop-at (zeros m) (drop m r) m (zeros-length m) in
+    let v : turn (goesOn (a .ledger) n m) (p ++ drop n t) (q ++ drop m r) (answerLine (ascii "open") (a .answer)) ≡ openOn n m t r = rw (ha, hl, hp, hq, i, j, f, g) in
     plays-as (v ∙ d) (plays (omega arith) hs (record { table = still n p t (ap length hp ∙ zeros-length _ ∙ i); roll = still m q r (hk ∙ j) }) w)
 
 -- P
@@ -106,13 +108,25 @@ case-plays body t r p x x′ e z a s h ha hp hk w hs =
     let v : turn (goesOn (a .ledger) (z .table) (z .roll)) (p ++ drop (z .table) t) r (answerLine (ascii "case") (a .answer)) ≡ caseTurn body t r z = rw (ha, hp) in
     plays-as v (plays (omega arith) hs (record { table = still (z .table) p t (hk ∙ length-take-le (z .table) t (h .table)); roll = h .roll }) w)
 
--- B
+-- F and B: a call that changes the roll alone. It left q in the lent part, and u is the turn that it makes
+roll-plays : {b : ℕ} (word t r q x x′ : List ℕ) (e : ℕ) (z : State) (a : Answered) (s : State) (u : Turn) → b ≤ longest → Within z t r
+    → length q ≡ length (take (z .roll) r) → Wrote b (answerLine word (a .answer)) (pen x 0) (pen x′ e) → s ≡ goesOn (a .ledger) (z .table) (z .roll)
+    → turn (goesOn (a .ledger) (z .table) (z .roll)) t (q ++ drop (z .roll) r) (answerLine word (a .answer)) ≡ u
+    → Plays u t (q ++ drop (z .roll) r) x x′ (record { state = s; end = e })
+roll-plays word t r q x x′ e z a s u hb h hk w hs v =
+    plays-as v (plays hb hs (record { table = h .table; roll = still (z .roll) q r (hk ∙ length-take-le (z .roll) r (h .roll)) }) w)
+
+pub fresh-plays : (t r q x x′ : List ℕ) (e : ℕ) (z : State) (a : Answered) (s : State) → Within z t r
+    → a .answer ≡ first (openTable (take (z .roll) r)) → a .ledger ≡ openedOf (take (z .roll) r) → q ≡ rollAfterOpen (take (z .roll) r)
+    → length q ≡ length (take (z .roll) r) → Wrote 47 (answerLine (ascii "open") (a .answer)) (pen x 0) (pen x′ e)
+    → s ≡ goesOn (a .ledger) (z .table) (z .roll) → Plays (freshTurn t r z) t (q ++ drop (z .roll) r) x x′ (record { state = s; end = e })
+unfolding freshTurn freshOn
+fresh-plays t r q x x′ e z a s h ha hl hq hk w hs = roll-plays (ascii "open") t r q x x′ e z a s (freshTurn t r z) (omega arith) h hk w hs (rw (ha, hl, hq))
+
 pub block-plays : (t r q x x′ : List ℕ) (e : ℕ) (z : State) (a : Answered) (s : State) → Within z t r
     → a .answer ≡ first (closeTable (take (z .table) t) (take (z .roll) r) (z .ledger)) → a .ledger ≡ closedOf (take (z .table) t) (take (z .roll) r) (z .ledger)
     → q ≡ rollAfterClose (take (z .table) t) (take (z .roll) r) (z .ledger) → length q ≡ length (take (z .roll) r)
     → Wrote 48 (answerLine (ascii "block") (a .answer)) (pen x 0) (pen x′ e) → s ≡ goesOn (a .ledger) (z .table) (z .roll)
     → Plays (blockTurn t r z) t (q ++ drop (z .roll) r) x x′ (record { state = s; end = e })
 unfolding blockTurn blockOn
-block-plays t r q x x′ e z a s h ha hl hq hk w hs =
-    let v : turn (goesOn (a .ledger) (z .table) (z .roll)) t (q ++ drop (z .roll) r) (answerLine (ascii "block") (a .answer)) ≡ blockTurn t r z = rw (ha, hl, hq) in
-    plays-as v (plays (omega arith) hs (record { table = h .table; roll = still (z .roll) q r (hk ∙ length-take-le (z .roll) r (h .roll)) }) w)
+block-plays t r q x x′ e z a s h ha hl hq hk w hs = roll-plays (ascii "block") t r q x x′ e z a s (blockTurn t r z) (omega arith) h hk w hs (rw (ha, hl, hq))

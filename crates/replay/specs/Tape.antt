@@ -58,11 +58,17 @@ canLend whole n m table roll = whole && (leb n table && leb m roll)
 unfoldable pub lends : (ℕ → ℕ → Bool) → (ℕ → ℕ → Turn) → ℕ → ℕ → List ℕ → List ℕ → Turn
 lends whole u n m t r = cond (canLend (whole n m) n m (length t) (length r)) (u n m) (brokenTurn t r)
 
--- O OPENS a fresh ledger on zeroed bytes. Body: how many of the table (4) and of the roll (4)
+-- F OPENS a fresh ledger on the lent bytes as they stand
+unfoldable pub freshOn : ℕ → ℕ → List ℕ → List ℕ → Turn
+freshOn n m t r =
+    turn (goesOn (openedOf (take m r)) n m) t (rollAfterOpen (take m r) ++ drop m r) (answerLine (ascii "open") (first (openTable (take m r))))
+
+unfoldable pub freshTurn : List ℕ → List ℕ → State → Turn
+freshTurn t r s = freshOn (s .table) (s .roll) t r
+
+-- O ZEROES bytes and opens a fresh ledger on them. Body: how many of the table (4) and of the roll (4)
 unfoldable pub openOn : ℕ → ℕ → List ℕ → List ℕ → Turn
-openOn n m t r =
-    turn (goesOn (openedOf (zeros m)) n m) (zeros n ++ drop n t) (rollAfterOpen (zeros m) ++ drop m r)
-    (answerLine (ascii "open") (first (openTable (zeros m))))
+openOn n m t r = freshOn n m (zeros n ++ drop n t) (zeros m ++ drop m r)
 
 unfoldable pub openTurn : List ℕ → List ℕ → List ℕ → Turn
 openTurn body t r = lends (λ n m. eqb (length body) 8) (λ n m. openOn n m t r) (little (field 0 4 body)) (little (field 4 4 body)) t r
@@ -101,9 +107,9 @@ lookTurn kind t r s =
     (cond (isKind "M" kind) (turn s t r (memoryText (take (s .table) t) (take (s .roll) r) (s .ledger)))
     (brokenTurn t r)))
 
--- B and those three have an empty body
+-- F, B and those three have an empty body
 unfoldable pub bareTurn : ℕ → List ℕ → List ℕ → State → Turn
-bareTurn kind t r s = cond (isKind "B" kind) (blockTurn t r s) (lookTurn kind t r s)
+bareTurn kind t r s = cond (isKind "F" kind) (freshTurn t r s) (cond (isKind "B" kind) (blockTurn t r s) (lookTurn kind t r s))
 
 -- S JUDGES A SEAL. Body: the gain (8), the offset (8) and the seal (25)
 unfoldable pub sealTurn : List ℕ → List ℕ → List ℕ → State → Turn

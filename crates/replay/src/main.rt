@@ -18,7 +18,7 @@ ghost use Rattle.text.specs.Answers.{answerWords, answerLine};
 ghost use Rattle.text.specs.Hex.{hex, hex64};
 ghost use Rattle.text.specs.Pen.{pen, Wrote};
 ghost use Rattle.replay.specs.Looks.{ledgerText, rowLine, rowLines, rowsText, memoryText, pullBits, sealedText, sealText};
-ghost use Rattle.replay.specs.Tape.{nothing as nothingOf, goesOn, canLend, openTurn, plantTurn, caseTurn, blockTurn, lookTurn, bareTurn, nameTurn, entryTurn, nextTurn, lengthOf, longest, Within, Plays};
+ghost use Rattle.replay.specs.Tape.{nothing as nothingOf, goesOn, canLend, openTurn, plantTurn, caseTurn, freshTurn, blockTurn, lookTurn, bareTurn, nameTurn, entryTurn, nextTurn, lengthOf, longest, Within, Plays};
 use ledger::Answered;
 use ledger::Ledger;
 use ledger::Pool;
@@ -298,6 +298,19 @@ fn run_case(body: &[u8], table: &mut [u8], roll: &[u8], state: State, out: &mut 
     Ran { state, end }
 }
 
+// A fresh ledger on the lent bytes as they stand: what of them changes is seen by a look before and after.
+fn run_fresh(table: &[u8], roll: &mut [u8], state: State, out: &mut [u8]) -> Ran
+    requires { ⌜ Within state (now table) (now roll) ⌝ }
+    ensures { λ a. ⌜ Plays (freshTurn (now (table .entry)) (now (roll .entry)) state) (now (table .entry)) (now (roll .exit)) (now (out .entry)) (now (out .exit)) a ⌝ }
+{
+    let n = state.table;
+    let m = state.roll;
+    let a = judge::open(&mut roll[..m]);
+    let end = text::put_answer_line(out, 0, b"open", a.answer);
+    let state = going_on(a.ledger, n, m);
+    Ran { state, end }
+}
+
 fn run_block(table: &[u8], roll: &mut [u8], state: State, out: &mut [u8]) -> Ran
     requires { ⌜ Within state (now table) (now roll) ⌝ }
     ensures { λ a. ⌜ Plays (blockTurn (now (table .entry)) (now (roll .entry)) state) (now (table .entry)) (now (roll .exit)) (now (out .entry)) (now (out .exit)) a ⌝ }
@@ -337,6 +350,9 @@ fn run_bare(kind: u8, table: &[u8], roll: &mut [u8], state: State, out: &mut [u8
     requires { ⌜ Within state (now table) (now roll) ⌝ }
     ensures { λ a. ⌜ Plays (bareTurn kind (now (table .entry)) (now (roll .entry)) state) (now (table .entry)) (now (roll .exit)) (now (out .entry)) (now (out .exit)) a ⌝ }
 {
+    if kind == b'F' {
+        return run_fresh(table, roll, state, out);
+    }
     if kind == b'B' {
         return run_block(table, roll, state, out);
     }

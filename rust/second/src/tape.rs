@@ -6,6 +6,7 @@
 //! | kind | body | what it does | what it prints |
 //! |---|---|---|---|
 //! | `O` | table length (4), roll length (4) | opens a fresh ledger on zeroed buffers | `open N P` |
+//! | `F` | empty | opens a fresh ledger on the lent buffers as they stand | `open N P` |
 //! | `C` | a case, any bytes | judges it | `case N P` |
 //! | `B` | empty | closes a block | `block N P` |
 //! | `S` | gain (8), offset (8), a seal (25) | judges the seal | `seal N P`, and the pull's bits on a pass |
@@ -98,6 +99,7 @@ impl Player {
     pub fn play(&mut self, kind: u8, body: &[u8]) -> Option<Vec<String>> {
         match kind {
             b'O' => self.open(body),
+            b'F' => empty(body).map(|()| self.open_as_lent()),
             b'C' => Some(self.case(body)),
             b'B' => empty(body).map(|()| self.close_block()),
             b'S' => play_seal(body),
@@ -116,9 +118,19 @@ impl Player {
         if !reader.is_done() {
             return None;
         }
-        let (ledger, answer) = Ledger::open(vec![0; table], vec![0; roll]);
+        Some(self.open_on(vec![0; table], vec![0; roll]))
+    }
+
+    fn open_as_lent(&mut self) -> Vec<String> {
+        let table = std::mem::take(&mut self.ledger.table);
+        let roll = std::mem::take(&mut self.ledger.roll);
+        self.open_on(table, roll)
+    }
+
+    fn open_on(&mut self, table: Vec<u8>, roll: Vec<u8>) -> Vec<String> {
+        let (ledger, answer) = Ledger::open(table, roll);
         self.ledger = ledger;
-        Some(vec![format!("open {answer}")])
+        vec![format!("open {answer}")]
     }
 
     fn case(&mut self, body: &[u8]) -> Vec<String> {

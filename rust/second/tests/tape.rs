@@ -107,6 +107,48 @@ fn a_refused_opening_leaves_an_all_zero_ledger() {
     assert_eq!(play(&tape.concat()), expected);
 }
 
+/// The line about a memory of these bytes.
+fn memory_of(table: &[u8], roll: &[u8], nodes: &[u8]) -> String {
+    let [table, roll, nodes] = [table, roll, nodes].map(|bytes| hex(&sha256(bytes)));
+    format!("memory {table} {roll} {nodes}")
+}
+
+/// A ledger of ones on buffers of ones, looked at, opened afresh as it stands,
+/// and looked at again.
+fn opening_on_ones(table: usize, roll: usize) -> Vec<u8> {
+    let lengths = [table, roll].map(|length| (length as u32).to_le_bytes());
+    let ones = [255; 988];
+    let body = [&ones[..], &lengths.concat(), &vec![255; table + roll]].concat();
+    let bare = [b'M', b'F', b'M', b'L'].map(|kind| entry(kind, &[]));
+    [&entry(b'P', &body)[..], &bare.concat()].concat()
+}
+
+#[test]
+fn an_opening_on_the_lent_bytes_writes_the_roll_s_first_row_alone() {
+    let root = empty_root(DEPTH);
+    let opened = [&root[..], &[255; 39]].concat();
+    let expected = [
+        "plant 0 0",
+        &memory_of(&[255; 70], &[255; 71], &[255; 960]),
+        "open 0 0",
+        &memory_of(&[255; 70], &opened, &[0; 960]),
+        &ledger_line("spent 0 leaves 0 anchors 1 pool 0", &root),
+    ];
+    assert_eq!(play(&opening_on_ones(70, 71)), expected);
+}
+
+#[test]
+fn a_refused_opening_on_the_lent_bytes_writes_none_of_them() {
+    let expected = [
+        "plant 0 0",
+        &memory_of(&[255; 70], &[255; 31], &[255; 960]),
+        "open 1 0",
+        &memory_of(&[255; 70], &[255; 31], &[0; 960]),
+        &ledger_line("spent 0 leaves 0 anchors 0 pool 0", &empty_root(DEPTH)),
+    ];
+    assert_eq!(play(&opening_on_ones(70, 31)), expected);
+}
+
 #[test]
 fn seals_print_the_pull_when_they_pass() {
     let seal = |gate, raw| Seal { gate, raw }.to_bytes();
@@ -175,9 +217,7 @@ fn rows_beyond_the_buffers_are_not_printed() {
 /// What the memory line of a ledger must be.
 fn memory_line(ledger: &Ledger) -> String {
     let record = ledger.tree.record().to_bytes();
-    let parts = [&ledger.table[..], &ledger.roll, &record[4..]];
-    let [table, roll, nodes] = parts.map(|bytes| hex(&sha256(bytes)));
-    format!("memory {table} {roll} {nodes}")
+    memory_of(&ledger.table, &ledger.roll, &record[4..])
 }
 
 #[test]
@@ -246,6 +286,7 @@ fn broken_entries_end_the_run() {
         entry(b'X', &[]),
         entry(b'o', &[]),
         entry(0, &[]),
+        entry(b'F', &[0]),
         entry(b'B', &[0]),
         entry(b'L', &[0]),
         entry(b'R', &[0]),

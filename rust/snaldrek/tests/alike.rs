@@ -28,6 +28,7 @@ impl Pair {
     fn play(&mut self, kind: u8, body: &[u8]) {
         match kind {
             b'O' => self.open(body),
+            b'F' => self.open_as_lent(),
             b'C' => {
                 self.judge_damaged(body);
                 self.judge(body);
@@ -43,14 +44,23 @@ impl Pair {
     /// The buffers are first filled with other bytes, to see which are written.
     fn open(&mut self, body: &[u8]) {
         let [table, roll] = [0, 4].map(|at| number_at(body, at));
-        let (theirs, expected) = PlainLedger::open(vec![7; table], vec![7; roll]);
-        let (mut bytes, mut roll) = ([7; LEDGER_BYTES], vec![7; roll]);
+        self.open_on(vec![7; table], vec![7; roll]);
+    }
+
+    fn open_as_lent(&mut self) {
+        let PlainLedger { table, roll, .. } = self.theirs.clone();
+        self.open_on(table, roll);
+    }
+
+    fn open_on(&mut self, table: Vec<u8>, mut roll: Vec<u8>) {
+        let (theirs, expected) = PlainLedger::open(table.clone(), roll.clone());
+        let mut bytes = [7; LEDGER_BYTES];
         assert_eq!(
             calls::open(&mut bytes, &mut roll),
             common::code(expected),
             "opening"
         );
-        self.ours = Ledger::from_parts(bytes, vec![7; table], roll);
+        self.ours = Ledger::from_parts(bytes, table, roll);
         self.theirs = theirs;
     }
 

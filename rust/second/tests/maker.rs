@@ -288,6 +288,156 @@ fn a_tape_finds_judges_that_leave_out_one_of_a_key_s_top_bits() {
     }
 }
 
+/// The ledgers that entries of these kinds came to.
+fn ledgers_before(tape: &[u8], kinds: &[u8]) -> Vec<Ledger> {
+    let mut player = Player::new();
+    let mut found = Vec::new();
+    for (kind, body) in entries(tape) {
+        if kinds.contains(&kind) {
+            found.push(player.ledger.clone());
+        }
+        if player.play(kind, body).is_none() {
+            break;
+        }
+    }
+    found
+}
+
+/// A wrong opening: what it changes of a ledger that was opened rightly, by
+/// what was there before.
+type Opening = fn(&Ledger, &mut Ledger);
+
+const WRONG_OPENINGS: [(&str, Opening); 9] = [
+    ("clears the table", |_, after| after.table.fill(0)),
+    ("clears the table's last byte", |_, after| {
+        after.table.iter_mut().rev().take(1).for_each(|b| *b = 0);
+    }),
+    ("clears the roll's second row", |_, after| {
+        after.roll.iter_mut().skip(32).take(32).for_each(|b| *b = 0);
+    }),
+    ("clears the roll's last byte", |_, after| {
+        after.roll.iter_mut().rev().take(1).for_each(|b| *b = 0);
+    }),
+    ("clears a roll without a row", |_, after| {
+        if after.roll.len() < ROW_BYTES {
+            after.roll.fill(0);
+        }
+    }),
+    ("keeps the nullifiers", |before, after| {
+        after.spent = before.spent;
+    }),
+    ("keeps the record", |before, after| {
+        after.tree = before.tree.clone();
+    }),
+    ("keeps the pool", |before, after| after.pool = before.pool),
+    ("counts an anchor where it refuses", |_, after| {
+        after.anchors = 1;
+    }),
+];
+
+#[test]
+fn a_tape_finds_openings_that_write_too_much() {
+    for seed in SEEDS {
+        let opened = ledgers_before(&make_tape(seed, 600).bytes, b"F");
+        for (name, change) in WRONG_OPENINGS {
+            let is_found = opened.iter().any(|before| {
+                let (right, _) = Ledger::open(before.table.clone(), before.roll.clone());
+                let mut wrong = right.clone();
+                change(before, &mut wrong);
+                wrong != right
+            });
+            assert!(is_found, "seed {seed}: an opening that {name}");
+        }
+    }
+}
+
+/// The used rows of ledgers that nothing else damages.
+fn rows_that_decide(tape: &[u8]) -> Vec<Vec<Bytes32>> {
+    let is_sound_besides = |ledger: &&Ledger| {
+        let mut other = (*ledger).clone();
+        let used = other.spent_rows().len();
+        for (index, row) in other.table.chunks_exact_mut(32).take(used).enumerate() {
+            row.fill(0);
+            row[..2].copy_from_slice(&(index as u16).to_be_bytes());
+        }
+        !other.is_damaged()
+    };
+    let ledgers = ledgers_before(tape, b"BC");
+    let deciding = ledgers.iter().filter(is_sound_besides);
+    deciding.map(Ledger::spent_rows).collect()
+}
+
+/// Whether rows rise once each is seen in another way.
+fn rise_by<T: PartialOrd>(rows: &[Bytes32], seen: impl Fn(&Bytes32) -> T) -> bool {
+    rows.windows(2).all(|pair| seen(&pair[0]) < seen(&pair[1]))
+}
+
+#[test]
+fn a_tape_finds_walks_that_compare_rows_otherwise() {
+    for seed in SEEDS {
+        let tables = rows_that_decide(&make_tape(seed, 600).bytes);
+        let is_found = |wrong: &dyn Fn(&[Bytes32]) -> bool| {
+            let differs = |rows: &Vec<Bytes32>| wrong(rows) != rise_by(rows, |row| *row);
+            tables.iter().any(differs)
+        };
+        for byte in 0..ROW_BYTES {
+            let without = |row: &Bytes32| [&row[..byte], &row[byte + 1..]].concat();
+            assert!(is_found(&|rows| rise_by(rows, without)), "without {byte}");
+            let signed = |row: &Bytes32| {
+                let mut row = *row;
+                row[byte] ^= 0x80;
+                row
+            };
+            assert!(is_found(&|rows| rise_by(rows, signed)), "{byte} signed");
+        }
+        let other_pairs =
+            |rows: &[Bytes32]| rows.chunks(2).all(|pair| pair[0] < pair[pair.len() - 1]);
+        assert!(is_found(&other_pairs), "every other pair");
+        let ends = |rows: &[Bytes32]| {
+            let pairs: Vec<_> = rows.windows(2).collect();
+            let is_rising = |pair: Option<&&[Bytes32]>| pair.is_none_or(|pair| pair[0] < pair[1]);
+            is_rising(pairs.first()) && is_rising(pairs.last())
+        };
+        assert!(is_found(&ends), "the first and the last pair alone");
+    }
+}
+
+/// The sums of a case in two parts: how many times 2^32, and the rest.
+fn parts(sum: u128) -> (u128, u128) {
+    (sum >> 32, sum % (1 << 32))
+}
+
+/// A sum whose parts are added apart, the carry lost.
+fn without_carry(amounts: [u64; 3]) -> (u64, u64) {
+    let add = |part: fn(u64) -> u64| amounts.iter().map(|amount| part(*amount)).sum::<u64>();
+    (
+        add(|amount| amount >> 32),
+        add(|amount| amount % (1 << 32)) % (1 << 32),
+    )
+}
+
+#[test]
+fn a_tape_finds_sums_that_are_compared_in_part() {
+    for seed in SEEDS {
+        let judged = judged_cases(&make_tape(seed, 600).bytes);
+        let answer = Answer::new(11, 0);
+        let high = |_: &Ledger, case: &Case| parts(case.value_in()).0 != parts(case.value_out()).0;
+        assert!(
+            is_found(&judged, answer, high),
+            "seed {seed}: the high part"
+        );
+        let low = |_: &Ledger, case: &Case| parts(case.value_in()).1 != parts(case.value_out()).1;
+        assert!(is_found(&judged, answer, low), "seed {seed}: the low part");
+        let carried = |_: &Ledger, case: &Case| {
+            let paid = [case.vpub_old, case.old[0].value, case.old[1].value];
+            let made = [case.vpub_new, case.new[0].value, case.new[1].value];
+            let [paid, made] = [paid, made].map(|amounts| without_carry(amounts.map(|a| a.0)));
+            paid != made
+        };
+        assert!(is_found(&judged, answer, carried), "seed {seed}: no carry");
+    }
+}
+
 #[test]
 fn what_is_done_on_a_planted_ledger_is_followed_by_a_look_at_its_memory() {
     for seed in SEEDS {

@@ -8,6 +8,7 @@
 pub mod bends;
 mod coverage;
 mod edges;
+mod misses;
 pub mod purse;
 mod scenes;
 mod seals;
@@ -70,7 +71,7 @@ struct Maker {
     /// Whether entries are put on the tape beside those that are wanted.
     is_beside: bool,
     /// How often each name was given.
-    runs: HashMap<&'static str, usize>,
+    runs: HashMap<String, usize>,
     /// Bends that have not been on the tape yet.
     bends_due: Vec<&'static Bend>,
     /// Pairs of neighbours in the table of refusals that have not both
@@ -123,11 +124,11 @@ impl Maker {
 
     /// Names what follows on the tape, if anything does. The first run of a name
     /// has it alone, a later one with its number.
-    fn name(&mut self, name: &'static str) {
+    fn name(&mut self, name: &str) {
         if self.is_done() && !self.is_beside {
             return;
         }
-        let runs = self.runs.entry(name).or_insert(0);
+        let runs = self.runs.entry(name.to_owned()).or_insert(0);
         *runs += 1;
         let number = *runs;
         let name = match number {
@@ -165,7 +166,7 @@ impl Maker {
             b'M' => self.memory_due = false,
             _ => (),
         }
-        if matches!(kind, b'P' | b'C' | b'B') {
+        if matches!(kind, b'P' | b'F' | b'C' | b'B') {
             self.memory_due = self.is_planted;
         }
         let is_beside = kind == b'N' || self.is_beside;
@@ -473,9 +474,19 @@ impl Maker {
     /// Opens a fresh ledger with buffers of these lengths.
     fn open(&mut self, table: usize, roll: usize) {
         self.leave_ledger();
-        let body = scenes::opening(table, roll);
+        self.ask_opening(b'O', &scenes::opening(table, roll), roll);
+    }
+
+    /// Opens a fresh ledger on the lent buffers as they stand.
+    fn open_as_lent(&mut self) {
+        let roll = self.player.ledger.roll.len();
+        self.ask_opening(b'F', &[], roll);
+    }
+
+    /// Puts an opening on a roll of this length on the tape.
+    fn ask_opening(&mut self, kind: u8, body: &[u8], roll: usize) {
         let expected = if roll < 32 { 1 } else { 0 };
-        let answer = self.ask(b'O', &body, None);
+        let answer = self.ask(kind, body, None);
         assert_eq!(answer, Answer::new(expected, 0), "opening");
         self.purse = Purse::fresh(&mut self.random);
     }

@@ -12,6 +12,7 @@ use crate::tree::{climb, parent, Record, Tree, DEPTH, FULL};
 use crate::wallet::{balance, idle_note, set_nullifiers, write_case, Note, Plan};
 
 use super::bends::{bend_named, BENDS};
+use super::misses::near_misses;
 use super::purse::Purse;
 use super::seals::KINDS;
 use super::tampers::{fill_spare_bytes, fill_unused_nodes, most_pool, TAMPERS};
@@ -110,6 +111,7 @@ impl Maker {
         if self.wanted >= LONG_TAPE {
             self.is_beside = true;
             beyond_the_limits(self);
+            near_misses(self);
         }
     }
 
@@ -140,7 +142,7 @@ fn length_of(random: &mut Random, rows: usize) -> usize {
 
 /// A length of this many rows and some bytes of another, for planted buffers:
 /// those bytes belong to no row, and have to stay.
-fn ragged_length(random: &mut Random, rows: usize) -> usize {
+pub(super) fn ragged_length(random: &mut Random, rows: usize) -> usize {
     rows * ROW_BYTES + 1 + random.below(ROW_BYTES - 1)
 }
 
@@ -404,7 +406,7 @@ fn rows_beside(maker: &mut Maker) {
     maker.look_at_rows();
 }
 
-fn write_row(buffer: &mut [u8], row: usize, bytes: &Bytes32) {
+pub(super) fn write_row(buffer: &mut [u8], row: usize, bytes: &Bytes32) {
     buffer[row * ROW_BYTES..(row + 1) * ROW_BYTES].copy_from_slice(bytes);
 }
 
@@ -594,7 +596,7 @@ fn rows_with(random: &mut Random, given: &[Bytes32], count: usize) -> Vec<Bytes3
 
 /// A sound ledger with these rows, a random record, and the purse's anchors
 /// among random ones on a roll with room for one more.
-fn ledger_from_elsewhere(
+pub(super) fn ledger_from_elsewhere(
     maker: &mut Maker,
     rows: &[Bytes32],
     table: usize,
@@ -867,7 +869,7 @@ fn broken_entry(random: &mut Random) -> Vec<u8> {
     long_plant.push(0);
     match random.below(13) {
         0 => entry(*random.pick(b"XoA\0\xff"), &[]),
-        1 => entry(*random.pick(b"BLRM"), &[0]),
+        1 => entry(*random.pick(b"FBLRM"), &[0]),
         2 => entry(b'O', &opening(64, 64)[..7]),
         3 => entry(b'O', &[0; 9]),
         4 => entry(b'O', &opening(MAX_TABLE_BYTES + 1, 64)),

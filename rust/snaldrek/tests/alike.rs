@@ -144,9 +144,11 @@ fn play_seal(body: &[u8]) {
     }
 }
 
-/// Plays the tape of a seed, and gives the number of its cases.
+/// Plays the tape of a seed up to what is no entry, with which one in four
+/// ends, and gives the number of its cases.
 fn play_tape(seed: u64) -> usize {
     let tape = make_tape(seed, ENTRIES);
+    let mut player = Player::new();
     let theirs = PlainLedger::zeroed(Vec::new(), Vec::new());
     let mut pair = Pair {
         ours: same_ledger(&theirs),
@@ -154,7 +156,10 @@ fn play_tape(seed: u64) -> usize {
         cases: 0,
         random: Random::new(seed),
     };
-    for (index, (kind, body)) in entries(&tape.bytes).into_iter().enumerate().take(ENTRIES) {
+    for (index, (kind, body)) in entries(&tape.bytes).into_iter().enumerate() {
+        if player.play(kind, body).is_none() {
+            break;
+        }
         pair.play(kind, body);
         let when = format!("seed {seed}, after entry {index} of kind {}", kind as char);
         assert_alike(&pair.ours, &pair.theirs, &when);

@@ -4,7 +4,7 @@
 use Prim.Native.Nat.{ℕ, _-_, _^_, _<_}
 use mathlib.Core.Path.{_≡_}
 use mathlib.Core.Bool.{Bool, cond}
-use mathlib.Core.List.{List, _++_}
+use mathlib.Core.List.{List, [], _++_}
 use lib.Dec.{eqb, ltb}
 use lib.IntN.{ℤ, pos, negsuc}
 use lib.ListN.{length}
@@ -12,6 +12,7 @@ use lib.Signed.{mag}
 use Rattle.octets.specs.Parts.{field}
 use Rattle.octets.specs.Numbers.{little, littleBytes}
 use Rattle.ledger.specs.declared.Ledger.{Ledger}
+use Rattle.ledgerbytes.specs.declared.Counts.{Counts}
 
 -- the signed number of 64 bits: from 2 ^ 63 on they count down from minus one
 unfoldable pub signedOf : ℕ → ℤ
@@ -31,6 +32,13 @@ ledgerOf b =
       tree = record { leaves = little (field 24 4 b); nodes = field 28 960 b };
       pool = record { 0 = signedOf (little (field 16 8 b)) };
     }
+
+-- THE COUNTS of a ledger, all but its record's nodes; and a ledger that has them, and no node
+abbrev pub countsOf : Ledger → Counts
+countsOf l = record { nullifiers = l .nullifiers; anchors = l .anchors; leaves = l .tree .leaves; pool = l .pool }
+
+abbrev pub bare : Counts → Ledger
+bare c = record { nullifiers = c .nullifiers; anchors = c .anchors; tree = record { leaves = c .leaves; nodes = [] }; pool = c .pool }
 
 -- WRITING: what stands before the nodes, and the whole
 unfoldable pub headOf : Ledger → List ℕ

@@ -2,11 +2,21 @@
 // callers that have nothing but memory to keep it in. Every 988 bytes are some ledger.
 // Whether it is damaged, and what may be done with it, is left to `ledger`.
 ghost use mathlib.Core.Path.{_≡_};
+ghost use Prim.Native.Nat.{_+_, _≤_};
 ghost use Rattle.octets.specs.Parts.{field};
-ghost use Rattle.ledgerbytes.specs.Keeping.{signedOf, bitsOf, ledgerOf, headOf, isWhole, written};
+ghost use Rattle.octets.specs.Numbers.{little};
+ghost use Rattle.ledgerbytes.specs.Keeping.{signedOf, bitsOf, ledgerOf, countsOf, headOf, isWhole, written};
 use ledger::Ledger;
 use ledger::Pool;
 use tree::Tree;
+
+// A ledger without its record's nodes: all that is asked about before a case is entered or a block closed.
+pub struct Counts {
+    pub nullifiers: usize,
+    pub anchors: usize,
+    pub leaves: u32,
+    pub pool: Pool,
+}
 
 // The signed number of 64 bits.
 fn signed(x: u64) -> i64
@@ -44,20 +54,64 @@ fn nodes_in(bytes: &[u8]) -> [u8; 960]
     nodes
 }
 
+// The number of eight bytes at an index before the nodes: in one load where the buffer has them.
+fn number(bytes: &[u8], at: usize) -> u64
+    requires { ⌜ at + 8 ≤ 28 ⌝ }
+    ensures { λ r. ⌜ r ≡ little (field at 8 (now (bytes .entry))) ⌝ }
+{
+    if bytes.len() < 28 {
+        return octets::le64(bytes, at);
+    }
+    octets::le64_of(
+        bytes[at],
+        bytes[at + 1],
+        bytes[at + 2],
+        bytes[at + 3],
+        bytes[at + 4],
+        bytes[at + 5],
+        bytes[at + 6],
+        bytes[at + 7],
+    )
+}
+
+// The record's own count, in the same way.
+fn leaves_in(bytes: &[u8]) -> u32
+    ensures { λ r. ⌜ r ≡ little (field 24 4 (now (bytes .entry))) ⌝ }
+{
+    if bytes.len() < 28 {
+        return octets::le32(bytes, 24);
+    }
+    octets::le32_of(bytes[24], bytes[25], bytes[26], bytes[27])
+}
+
+// The counts of the ledger that some bytes say; of its nodes no byte is read.
+pub fn read_counts(bytes: &[u8]) -> Counts
+    ensures { λ r. ⌜ r ≡ countsOf (ledgerOf (now (bytes .entry))) ⌝ }
+{
+    Counts {
+        nullifiers: number(bytes, 0) as usize,
+        anchors: number(bytes, 8) as usize,
+        leaves: leaves_in(bytes),
+        pool: Pool(signed(number(bytes, 16))),
+    }
+}
+
 // The ledger that some bytes say, whether it can be or not. Bytes that are not there read as zeros.
 pub fn read(bytes: &[u8]) -> Ledger
     ensures { λ r. ⌜ r ≡ ledgerOf (now (bytes .entry)) ⌝ }
 {
     let nodes = nodes_in(bytes);
+    let counts = read_counts(bytes);
+    let pool = counts.pool;
     let tree = Tree {
-        leaves: octets::le32(bytes, 24),
+        leaves: counts.leaves,
         nodes,
     };
     Ledger {
-        nullifiers: octets::le64(bytes, 0) as usize,
-        anchors: octets::le64(bytes, 8) as usize,
+        nullifiers: counts.nullifiers,
+        anchors: counts.anchors,
         tree,
-        pool: Pool(signed(octets::le64(bytes, 16))),
+        pool,
     }
 }
 

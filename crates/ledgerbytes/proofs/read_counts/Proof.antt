@@ -1,0 +1,26 @@
+use mir.Syntax.{w64}
+use mir.Facts.{toZ-ofZ}
+use Rattle.ledgerbytes.specs.Keeping.{ledgerOf}
+use borrow.Author.Needs.{needs}
+use Rattle.ledgerbytes.proofs.read_counts.Statement.{statement}
+use Rattle.ledgerbytes.proofs.read_counts.Tie as tie
+
+returns : tie.Need-returns
+unfolding ledgerOf
+returns c =
+    let p = c .before in
+    let l = p .before in
+    let a = l .before in
+    let n = a .before in
+    rw (toZ-ofZ {w = w64} {z = c .signed .result} (search needs), c .signed .ensures, p .number3 .ensures, l .leaves-in .ensures, a .number2 .ensures, n .number .ensures)
+
+pub read-counts-spec : {M : Type 1} → statement M
+read-counts-spec =
+    tie.close
+    (tie.spec
+    (λ c κs. search needs)
+    (λ c κs. search needs)
+    (λ c κs. search needs)
+    (λ c κs. search needs)
+    (λ c κs. search needs)
+    returns)

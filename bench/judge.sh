@@ -1,6 +1,8 @@
 #!/usr/bin/env bash
 # Compares the proved judge, linked in from the library, with judges in plain Rust on the same cases, and
-# prints tables. On x86-64 by time; on another processor by counted instructions, under an emulator.
+# prints tables. On x86-64 by time; on another processor, and wherever QEMU names an emulator, by counted
+# instructions under it. With EXACT=1 they are counted one by one, which takes several times as long:
+# otherwise an instruction that lies over the end of a page is counted twice.
 #   bench/judge.sh LIBRARY OUT [CASES]
 # LIBRARY is a folder that './snaldrek library' filled, OUT one for all that is made here. README.md beside
 # this file says what must be installed and what the figures mean.
@@ -27,7 +29,7 @@ find_linker || fail "there is no $linker that links x86-64 programs (bench/READM
 find_rustc || fail "no rustc here has the standard library for $target (bench/README.md)"
 command -v python3 >/dev/null || fail "python3 is missing (bench/README.md)"
 qemu=''
-if [ "$(uname -m)" != x86_64 ]; then
+if [ "$(uname -m)" != x86_64 ] || [ -n "${QEMU:-}" ]; then
     qemu=${QEMU:-qemu-x86_64}
     command -v "$qemu" >/dev/null || fail "'$qemu' is missing (bench/README.md)"
     "${CC:-cc}" -O2 -Wall -Wextra -shared -fPIC -o "$out/count.so" "$here/count.c"
@@ -51,7 +53,7 @@ build() {
 
 # Counted: the instructions so far at a mark before and after each call.
 count() { # FILL SIDE PROGRAM NAME
-    "$qemu" -plugin "$out/count.so,out=$out/total,marks=$out/marks" "$out/$3" mark "$4" "$out/tape"
+    "$qemu" ${EXACT:+-singlestep} -plugin "$out/count.so,out=$out/total,marks=$out/marks" "$out/$3" mark "$4" "$out/tape"
     awk 'NR % 2 { before = $1; next } { printf "%d ", $1 - before } END { print "" }' "$out/marks" |
         sed "s/^/1 $2 /" >>"$out/costs.$1"
 }

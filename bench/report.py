@@ -13,6 +13,7 @@ from pathlib import Path
 SIDES = ("proved", "plain", "words", "second")
 OTHERS = {"plain": "plain", "words": "tuned", "second": "second"}  # as the tables call them
 COMPRESSION = 3553  # instructions of one proved compression, from the bench of the hashes
+TIMES, ABOVE = 1.5, 150  # each kind of answer: at most so many times plain Rust's instructions, or so many above them
 COMPRESSIONS = 74  # of a case with two old notes of value: 58 for paths, 8 for commitments, 8 more
 
 
@@ -93,6 +94,14 @@ def by_kind(fills, unit):
         row(f"{kind[0]} {kind[1]}", *cells)
 
 
+def kept_to(fills):
+    """Says which kinds of answer miss the goal, if any does."""
+    missed = [f"{kind[0]} {kind[1]} with {fill.fill:,} rows ({proved - plain:+,.0f})" for fill in fills for kind, cases in sorted(fill.kinds.items())
+              for proved, plain in [(fill.mean("proved", cases), fill.mean("plain", cases))]
+              if proved > TIMES * plain and proved > plain + ABOVE]
+    print(f"\nEach kind at most {TIMES} times plain Rust, or {ABOVE} above it: " + (f"missed by {', '.join(missed)}." if missed else "met."))
+
+
 def write_figures(folder, unit):
     fills = sorted(int(path.name.split(".")[1]) for path in folder.glob("costs.*"))
     with open(folder / "figures.tsv", "w") as out:
@@ -107,6 +116,8 @@ def main():
     fills = [Fill(folder, int(word)) for word in sys.argv[3:]]
     overall(fills, unit)
     by_kind(fills, unit)
+    if unit == "instructions":
+        kept_to(fills)
     write_figures(folder, unit)
 
 

@@ -1,7 +1,7 @@
 // What a scanner's firmware links, by way of entry/calls.c: C functions on numbers and bytes. A host
 // keeps a ledger in three buffers, its own 988 bytes, its table and its roll; nothing is kept here from
-// call to call. Each call reads the ledger from its bytes, leaves the work to the rooms below, and
-// writes back what changed.
+// call to call. Each call leaves the work to the rooms below; of the ledger's bytes it reads what is asked
+// for, and writes back what changed.
 ghost use mathlib.Core.Path.{_≡_};
 ghost use lib.Ieee.{binary64, toBits};
 ghost use Rattle.seal.specs.Judgement.{sealAnswer};
@@ -53,14 +53,7 @@ pub extern "C" fn snaldrek_proved_judge(
     if ledger.len() != 988 {
         return code(Answer::refused(51, 1));
     }
-    let kept = ledgerbytes::read(&*ledger);
-    let judged = judge::judge(case, table, roll, kept);
-    let answer = judged.answer;
-    if !answer.is_accepted() {
-        return code(answer);
-    }
-    ledgerbytes::write(ledger, judged.ledger);
-    code(answer)
+    code(judge::judge_kept(case, table, roll, ledger))
 }
 
 // Closes a block.
@@ -73,14 +66,7 @@ pub extern "C" fn snaldrek_proved_close(ledger: &mut [u8], table: &[u8], roll: &
     if ledger.len() != 988 {
         return code(Answer::refused(51, 1));
     }
-    let kept = ledgerbytes::read(&*ledger);
-    let closed = judge::close(table, roll, kept);
-    let answer = closed.answer;
-    if !answer.is_accepted() {
-        return code(answer);
-    }
-    ledgerbytes::write(ledger, closed.ledger);
-    code(answer)
+    code(judge::close_kept(table, roll, ledger))
 }
 
 // The root that a block closed now would put on the roll.

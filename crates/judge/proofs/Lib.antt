@@ -1,3 +1,4 @@
+pub mod Bare
 pub mod Halves
 pub mod Outcomes
 pub mod Readiness

@@ -6,18 +6,24 @@ use mathlib.Core.Bool.{Bool, true, false, not}
 use mathlib.Core.List.{List, _++_}
 use borrow.Author.Tests.{eqb-true}
 use Rattle.refusals.specs.declared.Answer.{Answer}
-use Rattle.refusals.specs.Table.{Row, rowsIn, first, isAccepted}
+use Rattle.refusals.specs.Table.{Row, rowsIn, first, answer, isAccepted}
 use Rattle.refusals.proofs.TableLaws.{by-test, first-refused, rows-append, run-stops, run-goes-on}
-use Rattle.casefile.specs.Fields.{vpubOldOf, vpubNewOf, nullifierOf, commitmentOf}
-use Rattle.statement.specs.CaseTable.{witnessTable}
+use Rattle.casefile.specs.Fields.{hasLength, vpubOldOf, vpubNewOf, nullifierOf, commitmentOf}
+use Rattle.statement.specs.CaseTable.{no1, witnessTable}
 use Rattle.ledger.specs.declared.Ledger.{Ledger}
 use Rattle.ledger.specs.declared.Answered.{Answered}
 use Rattle.ledger.specs.Rows.{entered}
 use Rattle.ledger.specs.Ledgers.{enteredOf}
-use Rattle.judge.specs.Judging.{frontTable, answerOf, ledgerAfter, tableAfter, judgedOf}
+use Rattle.ledgerbytes.specs.Keeping.{written}
+use Rattle.judge.specs.Judging.{judgeTable, frontTable, answerOf, ledgerAfter, tableAfter, judgedOf, keptAfter}
 use Rattle.judge.proofs.Halves.{front-numbers, halves}
 
 module _ (c t r : List ℕ) (l : Ledger) where
+  -- the length decides before all else
+  pub length-decides : hasLength c ≡ false → answer 1 0 ≡ answerOf c t r l
+  unfolding answerOf judgeTable rowsIn no1 first
+  length-decides h = rw h
+
   -- the half that needs no hash decides, or the witness does
   module _ (a : Answer) (b : Bool) (e : a ≡ first (rowsIn (frontTable c t r l))) (q : b ≡ isAccepted a) where
     pub front-decides : not b ≡ true → a ≡ answerOf c t r l
@@ -59,3 +65,13 @@ module _ (c t r : List ℕ) (l : Ledger) where
   pub judged : (a : Answer) (m : Ledger) → a ≡ answerOf c t r l → m ≡ ledgerAfter c t r l → _≡_ {A = Answered} (record { answer = a; ledger = m }) (judgedOf c t r l)
   unfolding judgedOf
   judged a m p q = rw (p, q)
+
+-- bytes that keep a ledger are left by a refusal, and written by an acceptance
+module _ (a : Answer) (l : Ledger) (s : List ℕ) where
+  pub refused-kept : isAccepted a ≡ false → s ≡ keptAfter a l s
+  unfolding keptAfter
+  refused-kept h = rw h
+
+  pub accepted-kept : isAccepted a ≡ true → written l s ≡ keptAfter a l s
+  unfolding keptAfter
+  accepted-kept h = rw h

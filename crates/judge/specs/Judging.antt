@@ -12,6 +12,7 @@ use Rattle.ledger.specs.declared.Ledger.{Ledger}
 use Rattle.ledger.specs.declared.Answered.{Answered}
 use Rattle.ledger.specs.Rows.{entered}
 use Rattle.ledger.specs.Ledgers.{no2, no3, no6, no8, enteredOf}
+use Rattle.ledgerbytes.specs.Keeping.{written}
 
 -- the rows of each number, in the order of the numbers
 unfoldable pub judgeTable : List ℕ → List ℕ → List ℕ → Ledger → List Row
@@ -52,3 +53,7 @@ tableAfter c t r l = cond (isAccepted (answerOf c t r l)) (entered (l .nullifier
 
 unfoldable pub judgedOf : List ℕ → List ℕ → List ℕ → Ledger → Answered
 judgedOf c t r l = record { answer = answerOf c t r l; ledger = ledgerAfter c t r l }
+
+-- a ledger that is kept as bytes s: where the answer a accepts, they are those of the ledger l that comes after
+unfoldable pub keptAfter : Answer → Ledger → List ℕ → List ℕ
+keptAfter a l s = cond (isAccepted a) (written l s) s

@@ -1,19 +1,26 @@
 // What the ledger says of a case's public part, before the case is entered: damage, room, anchor,
-// nullifiers. How the lent rows are walked is left to table.rt and roll.rt.
+// nullifiers; and what that part says for itself, between these. Of the ledger this needs its counts alone, so that a refusal never reads the tree's nodes, and
+// a field of the case is read when it is asked about. How the lent rows are walked is left to table.rt and
+// roll.rt.
 use crate::roll::stands_on;
 use crate::table::is_rising;
 use crate::table::search;
 use ledger::Found;
-use ledger::Ledger;
+use ledgerbytes::Counts;
 use refusals::Answer;
+use units::Which;
 ghost use mathlib.Core.Path.{_≡_};
 ghost use mathlib.Core.Bool.{true};
 ghost use Prim.Native.Nat.{_*_, _≤_};
 ghost use lib.ListN.{length};
-ghost use Rattle.refusals.specs.Table.{first, lower};
+ghost use Rattle.refusals.specs.Table.{first, rowsIn};
+ghost use Rattle.units.specs.Pairs.{numberOf};
+ghost use Rattle.casefile.specs.Fields.{hasLength, anchorOf, nullifierOf};
 ghost use Rattle.ledger.specs.Sorted.{rising};
 ghost use Rattle.ledger.specs.Rows.{byteOrder, among};
-ghost use Rattle.ledger.specs.Ledgers.{roomIn, spentRows, damaged, no2, no3, no6, no8, ledgerTable};
+ghost use Rattle.ledger.specs.Ledgers.{roomIn, spentRows, damaged, no2, no3, no6, no8};
+ghost use Rattle.ledgerbytes.specs.Keeping.{bare};
+ghost use Rattle.judge.specs.Judging.{frontTable};
 
 // How many rows a lent length holds, and at most so many.
 pub fn room_in(most: usize, len: usize) -> usize
@@ -24,18 +31,18 @@ pub fn room_in(most: usize, len: usize) -> usize
 }
 
 // Whether the ledger is damaged. The counts are tested before any row is read.
-fn is_damaged(table: &[u8], roll: &[u8], ledger: Ledger) -> bool
-    ensures { λ r. ⌜ r ≡ damaged (now (table .entry)) (now (roll .entry)) ledger ⌝ }
+fn is_damaged(table: &[u8], roll: &[u8], counts: Counts) -> bool
+    ensures { λ r. ⌜ r ≡ damaged (now (table .entry)) (now (roll .entry)) (bare counts) ⌝ }
 {
-    let n = ledger.nullifiers;
-    let a = ledger.anchors;
+    let n = counts.nullifiers;
+    let a = counts.anchors;
     if n % 2 != 0 {
         return true;
     }
     if room_in(2048, table.len()) < n {
         return true;
     }
-    if ledger.tree.leaves as usize != n {
+    if counts.leaves as usize != n {
         return true;
     }
     if a == 0 {
@@ -44,17 +51,17 @@ fn is_damaged(table: &[u8], roll: &[u8], ledger: Ledger) -> bool
     if room_in(1024, roll.len()) < a {
         return true;
     }
-    if (n as u64) / 2 * 2100000000000000 < ledger.pool.size() {
+    if (n as u64) / 2 * 2100000000000000 < counts.pool.size() {
         return true;
     }
     !is_rising(table, n)
 }
 
 // 2
-pub fn sound(table: &[u8], roll: &[u8], ledger: Ledger) -> Answer
-    ensures { λ r. ⌜ r ≡ first (no2 (now (table .entry)) (now (roll .entry)) ledger) ⌝ }
+pub fn sound(table: &[u8], roll: &[u8], counts: Counts) -> Answer
+    ensures { λ r. ⌜ r ≡ first (no2 (now (table .entry)) (now (roll .entry)) (bare counts)) ⌝ }
 {
-    if is_damaged(table, roll, ledger) {
+    if is_damaged(table, roll, counts) {
         Answer::refused(2, 0)
     } else {
         Answer::accepted()
@@ -62,25 +69,26 @@ pub fn sound(table: &[u8], roll: &[u8], ledger: Ledger) -> Answer
 }
 
 // 3
-fn has_room(table: &[u8], ledger: Ledger) -> Answer
-    ensures { λ r. ⌜ r ≡ first (no3 (now (table .entry)) ledger) ⌝ }
+fn has_room(table: &[u8], counts: Counts) -> Answer
+    ensures { λ r. ⌜ r ≡ first (no3 (now (table .entry)) (bare counts)) ⌝ }
 {
     let room = room_in(2048, table.len());
     if room < 2 {
         return Answer::refused(3, 0);
     }
-    if room - 2 < ledger.nullifiers {
+    if room - 2 < counts.nullifiers {
         return Answer::refused(3, 0);
     }
     Answer::accepted()
 }
 
 // 6
-fn is_anchored(roll: &[u8], ledger: Ledger, anchor: &[u8; 32]) -> Answer
-    requires { ⌜ ledger .anchors * 32 ≤ length (now roll) ⌝ }
-    ensures { λ r. ⌜ r ≡ first (no6 (now (roll .entry)) ledger (now (anchor .entry))) ⌝ }
+fn is_anchored(roll: &[u8], counts: Counts, case: &[u8]) -> Answer
+    requires { ⌜ counts .anchors * 32 ≤ length (now roll) ⌝ }
+    ensures { λ r. ⌜ r ≡ first (no6 (now (roll .entry)) (bare counts) (anchorOf (now (case .entry)))) ⌝ }
 {
-    if stands_on(roll, ledger.anchors, anchor) {
+    let anchor = casefile::anchor(case);
+    if stands_on(roll, counts.anchors, &anchor) {
         Answer::accepted()
     } else {
         Answer::refused(6, 0)
@@ -88,70 +96,63 @@ fn is_anchored(roll: &[u8], ledger: Ledger, anchor: &[u8; 32]) -> Answer
 }
 
 // 8
-fn is_spent(table: &[u8], ledger: Ledger, row: &[u8; 32]) -> bool
-    requires { ⌜ ledger .nullifiers * 32 ≤ length (now table) ⌝ }
-    requires { ⌜ rising byteOrder (spentRows (now table) ledger) ≡ true ⌝ }
-    ensures { λ r. ⌜ r ≡ among (now (row .entry)) (spentRows (now (table .entry)) ledger) ⌝ }
+fn is_spent(table: &[u8], counts: Counts, case: &[u8], i: Which) -> bool
+    requires { ⌜ counts .nullifiers * 32 ≤ length (now table) ⌝ }
+    requires { ⌜ rising byteOrder (spentRows (now table) (bare counts)) ≡ true ⌝ }
+    ensures { λ r. ⌜ r ≡ among (nullifierOf (numberOf i) (now (case .entry))) (spentRows (now (table .entry)) (bare counts)) ⌝ }
 {
-    let f = search(table, ledger.nullifiers, row);
+    let row = casefile::nullifier(case, i);
+    let f = search(table, counts.nullifiers, &row);
     match f {
         Found::At(_) => true,
         Found::Gap(_) => false,
     }
 }
 
-fn are_unspent(table: &[u8], ledger: Ledger, one: &[u8; 32], two: &[u8; 32]) -> Answer
-    requires { ⌜ ledger .nullifiers * 32 ≤ length (now table) ⌝ }
-    requires { ⌜ rising byteOrder (spentRows (now table) ledger) ≡ true ⌝ }
-    ensures { λ r. ⌜ r ≡ first (no8 (now (table .entry)) ledger (now (one .entry)) (now (two .entry))) ⌝ }
+// In an empty table nothing is looked for.
+fn are_unspent(table: &[u8], counts: Counts, case: &[u8]) -> Answer
+    requires { ⌜ counts .nullifiers * 32 ≤ length (now table) ⌝ }
+    requires { ⌜ rising byteOrder (spentRows (now table) (bare counts)) ≡ true ⌝ }
+    ensures { λ r. ⌜ r ≡ first (no8 (now (table .entry)) (bare counts) (nullifierOf 1 (now (case .entry))) (nullifierOf 2 (now (case .entry)))) ⌝ }
 {
-    if is_spent(table, ledger, one) {
+    if counts.nullifiers == 0 {
+        return Answer::accepted();
+    }
+    if is_spent(table, counts, case, Which::First) {
         return Answer::refused(8, 1);
     }
-    if is_spent(table, ledger, two) {
+    if is_spent(table, counts, case, Which::Second) {
         return Answer::refused(8, 2);
     }
     Answer::accepted()
 }
 
-// The ledger's answer to a case's public part, beside the answer own that the case got for itself: the
-// lower number counts. Nothing is asked any more once own has a lower number than all that is left.
-pub fn ask(
-    table: &[u8],
-    roll: &[u8],
-    ledger: Ledger,
-    anchor: &[u8; 32],
-    one: &[u8; 32],
-    two: &[u8; 32],
-    own: Answer,
-) -> Answer
-    ensures { λ r. ⌜ r ≡ lower own (first (ledgerTable (now (table .entry)) (now (roll .entry)) ledger (now (anchor .entry)) (now (one .entry)) (now (two .entry)))) ⌝ }
+// What the ledger and the case's public part say, in the order of the numbers: the case's own answer is asked
+// for after 3, and counts before 6 or before 8. For this crate alone, which has asked for the length.
+pub fn ask(table: &[u8], roll: &[u8], counts: Counts, case: &[u8]) -> Answer
+    requires { ⌜ hasLength (now case) ≡ true ⌝ }
+    ensures { λ r. ⌜ r ≡ first (rowsIn (frontTable (now (case .entry)) (now (table .entry)) (now (roll .entry)) (bare counts))) ⌝ }
 {
-    if own.refuses_up_to(2) {
-        return own;
-    }
-    let a2 = sound(table, roll, ledger);
+    let a2 = sound(table, roll, counts);
     if !a2.is_accepted() {
         return a2;
     }
-    if own.refuses_up_to(3) {
-        return own;
-    }
-    let a3 = has_room(table, ledger);
+    let a3 = has_room(table, counts);
     if !a3.is_accepted() {
         return a3;
     }
+    let own = statement::public_part(case);
     if own.refuses_up_to(6) {
         return own;
     }
-    let a6 = is_anchored(roll, ledger, anchor);
+    let a6 = is_anchored(roll, counts, case);
     if !a6.is_accepted() {
         return a6;
     }
     if own.refuses_up_to(8) {
         return own;
     }
-    let a8 = are_unspent(table, ledger, one, two);
+    let a8 = are_unspent(table, counts, case);
     if !a8.is_accepted() {
         return a8;
     }

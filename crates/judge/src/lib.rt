@@ -11,16 +11,22 @@ mod rows;
 mod table;
 
 ghost use mathlib.Core.Path.{_≡_};
-ghost use Rattle.refusals.specs.Table.{first, rowsIn};
+ghost use Prim.Native.Nat.{_+_, _*_, _<_};
+ghost use lib.ListN.{length};
+ghost use Rattle.octets.specs.Parts.{pasted};
+ghost use Rattle.refusals.specs.Table.{first};
 ghost use Rattle.casefile.specs.Fields.{vpubOldOf, vpubNewOf, nullifierOf, commitmentOf};
+ghost use Rattle.tree.specs.Record.{recordRoot};
 ghost use Rattle.ledger.specs.Rows.{entered as enteredRows};
-ghost use Rattle.ledger.specs.Ledgers.{enteredOf, Ready, closeTable, closedOf, rollAfterClose, startOf, openTable, openedOf, rollAfterOpen};
-ghost use Rattle.judge.specs.Judging.{frontTable, judgedOf, tableAfter};
+ghost use Rattle.ledger.specs.Ledgers.{mostAnchors, roomIn, enteredOf, Ready, closeTable, closedOf, rollAfterClose, startOf, openTable, openedOf, rollAfterOpen};
+ghost use Rattle.ledgerbytes.specs.Keeping.{countsOf, bare, ledgerOf};
+ghost use Rattle.judge.specs.Judging.{answerOf, ledgerAfter, judgedOf, tableAfter, keptAfter};
 use asking::room_in;
 use asking::sound;
 use ledger::Answered;
 use ledger::Ledger;
 use ledger::Pool;
+use ledgerbytes::Counts;
 use refusals::Answer;
 use rows::start_of;
 use tree::Tree;
@@ -59,32 +65,79 @@ pub fn open(roll: &mut [u8]) -> Answered
     }
 }
 
-// Closes a block: the current root goes onto the roll, even if it is the last one again.
+// All of a ledger that is asked about.
+fn counts_of(ledger: Ledger) -> Counts
+    ensures { λ r. ⌜ r ≡ countsOf ledger ⌝ }
+{
+    let pool = ledger.pool;
+    Counts {
+        nullifiers: ledger.nullifiers,
+        anchors: ledger.anchors,
+        leaves: ledger.tree.leaves,
+        pool,
+    }
+}
+
+// Whether a block can be closed.
+fn closing(table: &[u8], roll: &[u8], counts: Counts) -> Answer
+    ensures { λ r. ⌜ r ≡ first (closeTable (now (table .entry)) (now (roll .entry)) (bare counts)) ⌝ }
+{
+    let a2 = sound(table, roll, counts);
+    if !a2.is_accepted() {
+        return a2;
+    }
+    if room_in(1024, roll.len()) <= counts.anchors {
+        return Answer::refused(3, 0);
+    }
+    Answer::accepted()
+}
+
+// Closes a block that can be closed: the current root goes onto the roll, even if it is the last one again.
+fn closed(roll: &mut [u8], ledger: Ledger) -> Ledger
+    requires { ⌜ ledger .anchors < roomIn mostAnchors (length (now roll)) ⌝ }
+    ensures { λ r. ⌜ r ≡ record { nullifiers = ledger .nullifiers; anchors = ledger .anchors + 1; tree = ledger .tree; pool = ledger .pool } ⌝ }
+    ensures { λ _. ⌜ now (roll .exit) ≡ pasted (ledger .anchors * 32) (recordRoot (ledger .tree)) (now (roll .entry)) ⌝ }
+{
+    let a = ledger.anchors;
+    let record = ledger.tree;
+    let root = record.root();
+    octets::copy_in(roll, start_of(Row::of(a)), &root);
+    let mut next = ledger;
+    next.anchors = a + 1;
+    next
+}
+
+// Closes a block.
 pub fn close(table: &[u8], roll: &mut [u8], ledger: Ledger) -> Answered
     ensures { λ r. ⌜ r .answer ≡ first (closeTable (now (table .entry)) (now (roll .entry)) ledger) ⌝ }
     ensures { λ r. ⌜ r .ledger ≡ closedOf (now (table .entry)) (now (roll .entry)) ledger ⌝ }
     ensures { λ _. ⌜ now (roll .exit) ≡ rollAfterClose (now (table .entry)) (now (roll .entry)) ledger ⌝ }
 {
-    let a2 = sound(table, &*roll, ledger);
-    if !a2.is_accepted() {
-        return Answered { answer: a2, ledger };
+    let a = closing(table, &*roll, counts_of(ledger));
+    if !a.is_accepted() {
+        return Answered { answer: a, ledger };
     }
-    let a = ledger.anchors;
-    if room_in(1024, roll.len()) <= a {
-        return Answered {
-            answer: Answer::refused(3, 0),
-            ledger,
-        };
-    }
-    let record = ledger.tree;
-    let root = record.root();
-    octets::copy_in(roll, start_of(Row::of(a)), &root);
-    let mut closed = ledger;
-    closed.anchors = a + 1;
+    let next = closed(roll, ledger);
     Answered {
-        answer: Answer::accepted(),
-        ledger: closed,
+        answer: a,
+        ledger: next,
     }
+}
+
+// The same on a ledger that is kept as bytes, of which a refusal reads the counts alone.
+pub fn close_kept(table: &[u8], roll: &mut [u8], kept: &mut [u8]) -> Answer
+    ensures { λ r. ⌜ r ≡ first (closeTable (now (table .entry)) (now (roll .entry)) (ledgerOf (now (kept .entry)))) ⌝ }
+    ensures { λ _. ⌜ now (roll .exit) ≡ rollAfterClose (now (table .entry)) (now (roll .entry)) (ledgerOf (now (kept .entry))) ⌝ }
+    ensures { λ _. ⌜ now (kept .exit) ≡ keptAfter (first (closeTable (now (table .entry)) (now (roll .entry)) (ledgerOf (now (kept .entry))))) (closedOf (now (table .entry)) (now (roll .entry)) (ledgerOf (now (kept .entry)))) (now (kept .entry)) ⌝ }
+{
+    let a = closing(table, &*roll, ledgerbytes::read_counts(&*kept));
+    if !a.is_accepted() {
+        return a;
+    }
+    let before = ledgerbytes::read(&*kept);
+    let next = closed(roll, before);
+    ledgerbytes::write(kept, next);
+    a
 }
 
 // Enters an accepted case.
@@ -111,32 +164,49 @@ fn entered(case: &[u8], table: &mut [u8], ledger: Ledger) -> Ledger
     )
 }
 
-// What the public part of a case and the ledger say: refusals 1 to 8.
-fn asked(case: &[u8], table: &[u8], roll: &[u8], ledger: Ledger) -> Answer
-    ensures { λ r. ⌜ r ≡ first (rowsIn (frontTable (now (case .entry)) (now (table .entry)) (now (roll .entry)) ledger)) ⌝ }
+// The answer to a case: what its public part and the ledger say, and then its witness. The length is asked
+// first of all, so that all the rest is compiled for a case of that length.
+fn answered(case: &[u8], table: &[u8], roll: &[u8], counts: Counts) -> Answer
+    ensures { λ r. ⌜ r ≡ answerOf (now (case .entry)) (now (table .entry)) (now (roll .entry)) (bare counts) ⌝ }
 {
-    let own = statement::public_part(case);
-    let anchor = casefile::anchor(case);
-    let one = casefile::nullifier(case, Which::First);
-    let two = casefile::nullifier(case, Which::Second);
-    asking::ask(table, roll, ledger, &anchor, &one, &two, own)
+    if !casefile::has_length(case) {
+        return Answer::refused(1, 0);
+    }
+    let front = asking::ask(table, roll, counts, case);
+    if !front.is_accepted() {
+        return front;
+    }
+    statement::witness(case)
 }
 
+// Judges a case; an accepted one is entered.
 pub fn judge(case: &[u8], table: &mut [u8], roll: &[u8], ledger: Ledger) -> Answered
     ensures { λ r. ⌜ r ≡ judgedOf (now (case .entry)) (now (table .entry)) (now (roll .entry)) ledger ⌝ }
     ensures { λ _. ⌜ now (table .exit) ≡ tableAfter (now (case .entry)) (now (table .entry)) (now (roll .entry)) ledger ⌝ }
 {
-    let a = asked(case, &*table, roll, ledger);
-    if !a.is_accepted() {
-        return Answered { answer: a, ledger };
+    let answer = answered(case, &*table, roll, counts_of(ledger));
+    if !answer.is_accepted() {
+        return Answered { answer, ledger };
     }
-    let w = statement::witness(case);
-    if !w.is_accepted() {
-        return Answered { answer: w, ledger };
-    }
-    let next = entered(case, table, ledger);
+    let after = entered(case, table, ledger);
     Answered {
-        answer: w,
-        ledger: next,
+        answer,
+        ledger: after,
     }
+}
+
+// The same on a ledger that is kept as bytes, of which a refusal reads the counts alone.
+pub fn judge_kept(case: &[u8], table: &mut [u8], roll: &[u8], kept: &mut [u8]) -> Answer
+    ensures { λ r. ⌜ r ≡ answerOf (now (case .entry)) (now (table .entry)) (now (roll .entry)) (ledgerOf (now (kept .entry))) ⌝ }
+    ensures { λ _. ⌜ now (table .exit) ≡ tableAfter (now (case .entry)) (now (table .entry)) (now (roll .entry)) (ledgerOf (now (kept .entry))) ⌝ }
+    ensures { λ _. ⌜ now (kept .exit) ≡ keptAfter (answerOf (now (case .entry)) (now (table .entry)) (now (roll .entry)) (ledgerOf (now (kept .entry)))) (ledgerAfter (now (case .entry)) (now (table .entry)) (now (roll .entry)) (ledgerOf (now (kept .entry)))) (now (kept .entry)) ⌝ }
+{
+    let answer = answered(case, &*table, roll, ledgerbytes::read_counts(&*kept));
+    if !answer.is_accepted() {
+        return answer;
+    }
+    let before = ledgerbytes::read(&*kept);
+    let after = entered(case, table, before);
+    ledgerbytes::write(kept, after);
+    answer
 }

@@ -6,7 +6,7 @@ ghost use mathlib.Core.Path.{_≡_};
 ghost use Prim.Native.Nat.{_+_, _≤_};
 ghost use lib.ListN.{length, take, drop};
 ghost use Rattle.octets.specs.Numbers.{big};
-ghost use Rattle.ledger.specs.Sorted.{isLess};
+ghost use Rattle.ledger.specs.Sorted.{isLess, isEqual};
 ghost use Rattle.ledger.specs.Rows.{byteOrder};
 
 // The number that the eight bytes at index at write.
@@ -80,4 +80,23 @@ pub fn is_below(a: &[u8], i: usize, b: &[u8], j: usize) -> bool
         return false;
     }
     compare_words(a, i, b, j).is_less()
+}
+
+// Whether the two rows are equal, up to the first words that differ; without a call, so that a walk has none.
+pub fn is_same(a: &[u8], i: usize, b: &[u8], j: usize) -> bool
+    requires { ⌜ i + 32 ≤ length (now a) ⌝ }
+    requires { ⌜ j + 32 ≤ length (now b) ⌝ }
+    ensures { λ r. ⌜ r ≡ isEqual (byteOrder (take 32 (drop i (now (a .entry)))) (take 32 (drop j (now (b .entry))))) ⌝ }
+{
+    for k in 0..4 {
+        let x = word(a, i + k * 8);
+        let y = word(b, j + k * 8);
+        if x < y {
+            return false;
+        }
+        if y < x {
+            return false;
+        }
+    }
+    true
 }

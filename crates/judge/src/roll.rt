@@ -1,7 +1,7 @@
 // The anchor roll: rows of 32 bytes in lent memory, of which the first count are used, in the order in
 // which they were written. How one row stands to another is left to order.rt, where a row starts to
 // rows.rt.
-use crate::order::compare_words;
+use crate::order::is_same;
 use crate::rows::start_of;
 use units::Row;
 ghost use mathlib.Core.Path.{_≡_};
@@ -17,7 +17,7 @@ pub fn stands_on(roll: &[u8], count: usize, row: &[u8; 32]) -> bool
 {
     let mut i = Row::of(0);
     while i.is_within(count) {
-        if compare_words(row, 0, roll, start_of(i)).is_equal() {
+        if is_same(row, 0, roll, start_of(i)) {
             return true;
         }
         i = i.next();

@@ -13,21 +13,21 @@ returns : tie.Need-returns
 unfolding no3
 returns c =
     let a = c .before .before .before .before .args in
-    let h : roomIn mostNullifiers (length (a .table .now)) < a .ledger .nullifiers + 2 = omega arith in
+    let h : roomIn mostNullifiers (length (a .table .now)) < a .counts .nullifiers + 2 = omega arith in
     c .refused .ensures ∙ one-holds _ 3 0 (lt-ltb _ _ h)
 
 returns-2 : tie.Need-returns-2
 unfolding no3
 returns-2 c =
     let a = c .before .before .before .before .before .before .args in
-    let h : roomIn mostNullifiers (length (a .table .now)) < a .ledger .nullifiers + 2 = omega arith in
+    let h : roomIn mostNullifiers (length (a .table .now)) < a .counts .nullifiers + 2 = omega arith in
     c .refused2 .ensures ∙ one-holds _ 3 0 (lt-ltb _ _ h)
 
 returns-3 : tie.Need-returns-3
 unfolding no3
 returns-3 c =
     let a = c .before .before .before .before .before .before .args in
-    let h : a .ledger .nullifiers + 2 ≤ roomIn mostNullifiers (length (a .table .now)) = omega arith in
+    let h : a .counts .nullifiers + 2 ≤ roomIn mostNullifiers (length (a .table .now)) = omega arith in
     c .accepted .ensures ∙ one-fails _ 3 0 (le-ltb _ _ h)
 
 pub has-room-spec : {M : Type 1} → statement M

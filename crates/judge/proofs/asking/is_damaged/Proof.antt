@@ -9,74 +9,75 @@ use borrow.Author.Tests.{eq-eqb, ne-eqb, lt-ltb, le-ltb}
 use Rattle.units.specs.Limits.{maxMoney}
 use Rattle.ledger.specs.Ledgers.{mostNullifiers, mostAnchors, roomIn, spentRows, some, damage, damaged}
 use Rattle.ledger.proofs.Soundness.{some-at, within, at-most}
+use Rattle.ledgerbytes.specs.Keeping.{bare}
 use borrow.Author.Needs.{needs}
 use Rattle.judge.proofs.asking.is_damaged.Statement.{statement}
 use Rattle.judge.proofs.asking.is_damaged.Tie as tie
 
-fits : (c : tie.Else2) → let a = c .before .before .before .before .before .args in a .ledger .nullifiers ≤ roomIn mostNullifiers (length (a .table .now))
+fits : (c : tie.Else2) → let a = c .before .before .before .before .before .args in a .counts .nullifiers ≤ roomIn mostNullifiers (length (a .table .now))
 fits c = omega arith
 
 returns : tie.Need-returns
 unfolding damaged damage
 returns c =
     let a = c .before .before .before .args in
-    let e : eqb (a .ledger .nullifiers % 2) 0 ≡ false = ne-eqb (a .ledger .nullifiers % 2) 0 (c .if1 .taken) in
-    some-at (damage (a .table .now) (a .roll .now) (a .ledger)) 0 (ap not e)
+    let e : eqb (a .counts .nullifiers % 2) 0 ≡ false = ne-eqb (a .counts .nullifiers % 2) 0 (c .if1 .taken) in
+    some-at (damage (a .table .now) (a .roll .now) (bare (a .counts))) 0 (ap not e)
 
 returns-2 : tie.Need-returns-2
 unfolding damaged damage
 returns-2 c =
     let m = c .before in
     let a = m .before .before .before .before .args in
-    let h : roomIn mostNullifiers (length (a .table .now)) < a .ledger .nullifiers = omega arith in
-    some-at (damage (a .table .now) (a .roll .now) (a .ledger)) 1 (lt-ltb _ _ h)
+    let h : roomIn mostNullifiers (length (a .table .now)) < a .counts .nullifiers = omega arith in
+    some-at (damage (a .table .now) (a .roll .now) (bare (a .counts))) 1 (lt-ltb _ _ h)
 
 returns-3 : tie.Need-returns-3
 unfolding damaged damage
 returns-3 c =
     let a = c .before .before .before .before .before .before .before .args in
-    let e : eqb (a .ledger .tree .leaves) (a .ledger .nullifiers) ≡ false = ne-eqb (a .ledger .tree .leaves) (a .ledger .nullifiers) (c .if3 .taken) in
-    some-at (damage (a .table .now) (a .roll .now) (a .ledger)) 3 (ap not e)
+    let e : eqb (a .counts .leaves) (a .counts .nullifiers) ≡ false = ne-eqb (a .counts .leaves) (a .counts .nullifiers) (c .if3 .taken) in
+    some-at (damage (a .table .now) (a .roll .now) (bare (a .counts))) 3 (ap not e)
 
 returns-4 : tie.Need-returns-4
 unfolding damaged damage
 returns-4 c =
     let a = c .before .before .before .before .before .before .before .before .args in
-    some-at (damage (a .table .now) (a .roll .now) (a .ledger)) 4 (eq-eqb (a .ledger .anchors) 0 (c .if4 .taken))
+    some-at (damage (a .table .now) (a .roll .now) (bare (a .counts))) 4 (eq-eqb (a .counts .anchors) 0 (c .if4 .taken))
 
 returns-5 : tie.Need-returns-5
 unfolding damaged damage
 returns-5 c =
     let a = c .before .before .before .before .before .before .before .before .before .before .args in
-    let h : roomIn mostAnchors (length (a .roll .now)) < a .ledger .anchors = omega arith in
-    some-at (damage (a .table .now) (a .roll .now) (a .ledger)) 5 (lt-ltb _ _ h)
+    let h : roomIn mostAnchors (length (a .roll .now)) < a .counts .anchors = omega arith in
+    some-at (damage (a .table .now) (a .roll .now) (bare (a .counts))) 5 (lt-ltb _ _ h)
 
 mul-if6 : tie.Need-mul-if6
 mul-if6 c =
     let e = c .before .before .before .before .before in
     let a = e .before .before .before .before .before .args in
-    let h : a .ledger .nullifiers ≤ 2048 = at-most (a .ledger .nullifiers) mostNullifiers (length (a .table .now)) (fits e) in
+    let h : a .counts .nullifiers ≤ 2048 = at-most (a .counts .nullifiers) mostNullifiers (length (a .table .now)) (fits e) in
     record { fits = omega arith }
 
 returns-6 : tie.Need-returns-6
 unfolding damaged damage
 returns-6 c =
     let a = c .before .before .before .before .before .before .before .before .before .before .before .before .args in
-    let h : a .ledger .nullifiers / 2 * maxMoney < natAbs (a .ledger .pool .0) = omega arith in
-    some-at (damage (a .table .now) (a .roll .now) (a .ledger)) 6 (lt-ltb _ _ h)
+    let h : a .counts .nullifiers / 2 * maxMoney < natAbs (a .counts .pool .0) = omega arith in
+    some-at (damage (a .table .now) (a .roll .now) (bare (a .counts))) 6 (lt-ltb _ _ h)
 
 is-rising-requires : tie.Need-is-rising-requires
 is-rising-requires c κs =
     let e = c .before .before .before .before .before .before .before in
     let a = e .before .before .before .before .before .args in
-    within (a .ledger .nullifiers) mostNullifiers (length (a .table .now)) (fits e)
+    within (a .counts .nullifiers) mostNullifiers (length (a .table .now)) (fits e)
 
 returns-7 : tie.Need-returns-7
 unfolding damaged damage some spentRows
 returns-7 c =
     let e = c .before .before .before .before .before .before .before .before in
     let a = e .before .before .before .before .before .args in
-    let l = a .ledger in
+    let l = bare (a .counts) in
     let even : eqb (l .nullifiers % 2) 0 ≡ true = eq-eqb (l .nullifiers % 2) 0 (omega arith) in
     let roomy : ltb (roomIn mostNullifiers (length (a .table .now))) (l .nullifiers) ≡ false = le-ltb _ _ (fits e) in
     let leaves : eqb (l .tree .leaves) (l .nullifiers) ≡ true = eq-eqb (l .tree .leaves) (l .nullifiers) (omega arith) in

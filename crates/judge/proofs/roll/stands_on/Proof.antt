@@ -32,25 +32,26 @@ within c = ltb-true _ _ (sym (c .before .is-within .ensures) ∙ c .if1 .taken)
 start-of-requires : tie.Need-start-of-requires Inv-loop μ-loop
 start-of-requires c κs = omega (arith, within (c .before))
 
-compare-words-requires : tie.Need-compare-words-requires Inv-loop μ-loop
-compare-words-requires c κs = (search needs, omega (arith, within (c .before .before)))
+is-same-requires : tie.Need-is-same-requires Inv-loop μ-loop
+is-same-requires c κs = (search needs, omega (arith, within (c .before .before)))
 
 -- what the order of the row and one of the roll says of the whole
-turn : (c : tie.After-is-equal Inv-loop μ-loop)
-    → let p = c .before .before .before .before .before .before in
+turn : (c : tie.After-is-same Inv-loop μ-loop)
+    → let p = c .before .before .before .before .before in
     let a = p .before .before .before .args in
     let rows = rowsOf (a .count) (a .roll .now) in
-    among (a .row .now) rows ≡ (c .is-equal .result || among (a .row .now) (drop (p .loop .i .0 + 1) rows))
+    among (a .row .now) rows ≡ (c .is-same .result || among (a .row .now) (drop (p .loop .i .0 + 1) rows))
 turn c =
-    let s = c .before .before in
+    let s = c .before in
     let q = s .before in
     let p = q .before .before .before in
     let a = p .before .before .before .args in
     let rest = among (a .row .now) (drop (p .loop .i .0 + 1) (rowsOf (a .count) (a .roll .now))) in
-    let e : c .before .compare-words .result ≡ byteOrder (take 32 (a .row .now)) (take 32 (drop (s .start-of .result) (a .roll .now))) = c .before .compare-words .ensures in
-    let told = e ∙ ap₂ (λ (r : List ℕ) (k : ℕ). byteOrder r (take 32 (drop k (a .roll .now)))) (take-all 32 (a .row .now) (omega (arith, q .compare-words-arg .given .0))) (s .start-of .ensures) in
+    let e : c .is-same .result ≡ isEqual (byteOrder (take 32 (a .row .now)) (take 32 (drop (s .start-of .result) (a .roll .now)))) = c .is-same .ensures in
+    let told = e
+    ∙ ap₂ (λ (r : List ℕ) (k : ℕ). isEqual (byteOrder r (take 32 (drop k (a .roll .now))))) (take-all 32 (a .row .now) (omega (arith, q .is-same-arg .given .0))) (s .start-of .ensures) in
     p .loop .inv .1 ∙ roll-turn (a .count) (p .loop .i .0) (a .roll .now) (a .row .now) (within (q .before))
-    ∙ ap (λ (b : Bool). b || rest) (sym (c .is-equal .ensures ∙ ap isEqual told))
+    ∙ ap (λ (b : Bool). b || rest) (sym told)
 
 returns : tie.Need-returns Inv-loop μ-loop
 returns c = sym (turn (c .before) ∙ rw (c .if2 .taken))
@@ -58,14 +59,14 @@ returns c = sym (turn (c .before) ∙ rw (c .if2 .taken))
 loop-again : tie.Need-loop-again Inv-loop μ-loop
 loop-again c =
     let e = c .before .before in
-    let t = e .before .before .before .before in
+    let t = e .before .before .before in
     let p = t .before .before in
     let a = p .before .before .before .args in
     let step : c .next .result .0 ≡ p .loop .i .0 + 1 = omega (arith, within t) in
     (omega (arith, within t, step), turn e ∙ rw (c .before .if2 .left) (ap (λ (k : ℕ). among (a .row .now) (drop k (rowsOf (a .count) (a .roll .now)))) (sym step)))
 
 loop-less : tie.Need-loop-less Inv-loop μ-loop
-loop-less c = omega (arith, within (c .before .before .before .before .before .before))
+loop-less c = omega (arith, within (c .before .before .before .before .before))
 
 returns-2 : tie.Need-returns-2 Inv-loop μ-loop
 returns-2 c =
@@ -83,8 +84,7 @@ stands-on-spec =
     loop-holds
     (λ c κs. search needs)
     start-of-requires
-    compare-words-requires
-    (λ c κs. search needs)
+    is-same-requires
     returns
     (λ c κs. search needs)
     loop-less

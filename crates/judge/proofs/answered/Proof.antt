@@ -1,0 +1,43 @@
+use mathlib.Core.Path.{_≡_, sym, _∙_}
+use borrow.Author.Tests.{not-true, not-false}
+use Rattle.ledgerbytes.specs.Keeping.{bare}
+use Rattle.judge.proofs.Outcomes.{length-decides, front-decides, witness-decides}
+use borrow.Author.Needs.{needs}
+use Rattle.judge.proofs.answered.Statement.{statement}
+use Rattle.judge.proofs.answered.Tie as tie
+
+returns : tie.Need-returns
+returns c =
+    let l = c .before .before in
+    let a = l .before .before .before .before .args in
+    c .refused .ensures
+    ∙ length-decides (a .case .now) (a .table .now) (a .roll .now) (bare (a .counts)) (sym (l .has-length .ensures) ∙ not-true _ (c .before .if1 .taken))
+
+ask-requires : tie.Need-ask-requires
+ask-requires c κs = sym (c .before .has-length .ensures) ∙ not-false _ (c .if1 .left)
+
+returns-2 : tie.Need-returns-2
+returns-2 c =
+    let q = c .before .before in
+    let a = q .before .before .before .before .before .before .args in
+    front-decides (a .case .now) (a .table .now) (a .roll .now) (bare (a .counts)) _ _ (q .ask .ensures) (c .before .is-accepted .ensures) (c .if2 .taken)
+
+returns-3 : tie.Need-returns-3
+returns-3 c =
+    let p = c .before in
+    let q = p .before .before in
+    let a = q .before .before .before .before .before .before .args in
+    c .witness .ensures ∙ sym (witness-decides (a .case .now) (a .table .now) (a .roll .now) (bare (a .counts)) _ _ (q .ask .ensures) (p .before .is-accepted .ensures) (p .if2 .left))
+
+pub answered-spec : {M : Type 1} → statement M
+answered-spec =
+    tie.close
+    (tie.spec
+    (λ c κs. search needs)
+    (λ c κs. search needs)
+    returns
+    ask-requires
+    (λ c κs. search needs)
+    returns-2
+    (λ c κs. search needs)
+    returns-3)

@@ -1,7 +1,7 @@
 -- THE LIMITS of document 01, each at what is allowed and at one more, as tests of the definitions, and the one statement that all of them pass. A limit that
 -- was moved in definition and code alike is told by its number here.
 -- Assumes nothing.
-use Prim.Native.Nat.{ℕ, zero, suc, _+_, _-_, _*_, _^_, _<_}
+use Prim.Native.Nat.{ℕ, zero, suc, _+_, _*_, _^_, _<_}
 use mathlib.Core.Path.{_≡_, refl, _∙_}
 use mathlib.Core.Bool.{Bool, true, false, not, _&&_, and-true}
 use mathlib.Core.List.{List, [], _∷_, _++_}

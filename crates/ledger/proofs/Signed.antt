@@ -1,13 +1,13 @@
 -- Sums and differences of a signed number and an unsigned one: how far from zero they are, and that they fit.
 -- Assumes nothing.
-use Prim.Native.Nat.{ℕ, zero, suc, _+_, _-_, _<_, _≤_, _^_}
-use mathlib.Core.Path.{_≡_, refl, sym, ap, _∙_}
-use mathlib.Core.Bool.{Bool, true, false, cond}
+use Prim.Native.Nat.{ℕ, zero, suc, _+_, _<_, _≤_, _^_}
+use mathlib.Core.Path.{_≡_, refl, ap}
+use mathlib.Core.Bool.{Bool, true, false}
 use native.Mathlib.Omega.{arith}
-use lib.IntN.{ℤ, pos, negsuc, natAbs, subℕ, negℤ, _+ℤ_, _-ℤ_}
-use lib.Signed.{mag, ltZ, nonNeg}
-use lib.Dec.{ltb, T}
-use borrow.Author.Tests.{ltb-true, ltb-false, le-ltb}
+use lib.IntN.{ℤ, pos, negsuc, natAbs, subℕ, _+ℤ_, _-ℤ_}
+use lib.Signed.{mag, ltZ}
+use lib.Dec.{ltb}
+use borrow.Author.Tests.{ltb-true, le-ltb}
 use mir.Syntax.{w64}
 use mir.Val.{SFits}
 

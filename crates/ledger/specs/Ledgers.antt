@@ -6,9 +6,9 @@ use mathlib.Core.Path.{_≡_}
 use mathlib.Core.Bool.{Bool, true, false, cond, not, _||_}
 use mathlib.Core.List.{List, [], _∷_}
 use lib.Dec.{eqb, ltb, leb}
-use lib.IntN.{ℤ, pos, natAbs, _+ℤ_, _-ℤ_}
+use lib.IntN.{pos, natAbs, _+ℤ_, _-ℤ_}
 use lib.ListN.{length}
-use Rattle.octets.specs.Parts.{zeros, pasted}
+use Rattle.octets.specs.Parts.{pasted}
 use Rattle.octets.specs.Rows.{rowsOf}
 use Rattle.units.specs.Limits.{maxMoney}
 use Rattle.refusals.specs.Table.{Row, row, rowsIn, first, isAccepted}
@@ -16,7 +16,7 @@ use Rattle.nodes.specs.CommitmentTree.{treeRoot}
 use Rattle.tree.specs.Record.{freshOf, grown, recordRoot}
 use Rattle.ledger.specs.declared.Ledger.{Ledger}
 use Rattle.ledger.specs.Sorted.{rising}
-use Rattle.ledger.specs.Rows.{byteOrder, Fresh, entered, among}
+use Rattle.ledger.specs.Rows.{byteOrder, Fresh, among}
 
 -- how many rows a lent length holds, and at most so many
 abbrev pub mostNullifiers : ℕ

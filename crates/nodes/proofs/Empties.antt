@@ -3,11 +3,10 @@
 use mathlib.Core.Path.{_≡_, refl, sym, ap, ap₂, _∙_}
 use mathlib.Core.Bool.{Bool, true, false, _&&_, false≢true}
 use mathlib.Core.List.{List, [], _∷_}
-use Prim.Native.Nat.{ℕ, zero, suc, _+_, _*_, _<_, _≤_}
-use native.Mathlib.Nat.{mul-comm}
+use Prim.Native.Nat.{ℕ, zero, suc, _*_, _<_}
 use native.Mathlib.Omega.{arith}
-use lib.ListN.{length, getD, take, drop}
-use Rattle.octets.specs.Parts.{zeros, field, listed, same}
+use lib.ListN.{length, getD, drop}
+use Rattle.octets.specs.Parts.{field, listed, same}
 use Rattle.octets.specs.Numbers.{big, bigBytes}
 use Rattle.octets.specs.Rows.{rowsOf}
 use Rattle.octets.proofs.PartLaws.{same-eq}

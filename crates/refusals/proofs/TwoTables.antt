@@ -8,7 +8,7 @@ use mathlib.Core.List.{List, [], _∷_}
 use native.Mathlib.Omega.{arith}
 use native.Mathlib.Nat.{eq-or-lt-of-le}
 use borrow.Author.Tests.{eqb-true, eqb-false, ne-eqb, not-true, leb-true, leb-false, le-leb, lt-leb}
-use lib.Dec.{eqb, leb}
+use lib.Dec.{leb}
 use Rattle.refusals.specs.declared.Answer.{Answer}
 use Rattle.refusals.specs.Table.{Row, answer, isAccepted, first, numbered, lower, refusesUpTo}
 use Rattle.refusals.proofs.TableLaws.{by-test, and-both, first-here, first-next, numbered-here, numbered-next}

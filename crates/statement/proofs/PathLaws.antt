@@ -1,9 +1,8 @@
 -- A path that is read from the part of the file that holds it leads where the path field's own bytes lead.
 -- Assumes nothing.
 use Prim.Native.Nat.{ℕ}
-use mathlib.Core.Path.{_≡_, refl, sym, ap, _∙_}
+use mathlib.Core.Path.{_≡_, sym, ap, _∙_}
 use mathlib.Core.List.{List}
-use native.Mathlib.Nat.{add-zero}
 use Rattle.octets.specs.Parts.{field}
 use Rattle.octets.specs.Rows.{rowsOf}
 use Rattle.octets.proofs.PartLaws.{field-all, field-length}
@@ -13,7 +12,7 @@ use Rattle.units.specs.Pairs.{numberOf}
 use Rattle.nodes.specs.CommitmentTree.{parentOf}
 use Rattle.nodes.specs.Trees.{climbOf}
 use Rattle.tree.specs.Record.{pathEnd}
-use Rattle.casefile.specs.Layout.{description, oldNote, newNote, lengths, total, offset, proofLength, partOf, presentOf, ofOld}
+use Rattle.casefile.specs.Layout.{description, oldNote, newNote, lengths, offset, proofLength, partOf, presentOf, ofOld}
 use Rattle.casefile.specs.Fields.{oldPathOf}
 use Rattle.casefile.proofs.LayoutLaws.{present-field}
 

@@ -1,7 +1,7 @@
 -- One turn of each loop, and its end, over bytes.
 -- Assumes nothing.
-use Prim.Native.Nat.{ℕ, zero, suc, _+_, _-_, _*_, _/_, _%_, _<_, _≤_}
-use mathlib.Core.Path.{_≡_, refl, sym, ap, ap₂, _∙_}
+use Prim.Native.Nat.{ℕ, zero, suc, _+_, _-_, _*_, _/_, _%_, _<_}
+use mathlib.Core.Path.{_≡_, refl, sym, ap, _∙_}
 use mathlib.Core.List.{List, [], _∷_, _++_}
 use native.Mathlib.Numerals.{add-one}
 use native.Mathlib.Nat.{zero-add}
@@ -12,7 +12,7 @@ use Rattle.octets.specs.Rows.{rowsOf, flat}
 use Rattle.octets.proofs.PartLaws.{field-field, field-length, pasted-is}
 use Rattle.octets.proofs.RowLaws.{rows-length, rows-field, flat-put}
 use Rattle.nodes.specs.Trees.{onBit, emptyAt, push, joinOf, foldOf, climbOf}
-use Rattle.nodes.specs.CommitmentTree.{parentOf, emptyLeaf, emptyRoot}
+use Rattle.nodes.specs.CommitmentTree.{parentOf, emptyRoot}
 use Rattle.tree.specs.Record.{stepOf}
 use Rattle.tree.proofs.Steps.{push-odd, push-even, push-top, fold-step, fold-top, climb-step, climb-top}
 

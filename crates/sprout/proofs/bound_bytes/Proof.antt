@@ -1,7 +1,5 @@
 use mathlib.Core.Path.{_≡_, refl}
 use Rattle.sprout.specs.Hashes.{boundBytes}
-use mathlib.Core.List.{[]}
-use Prim.Native.Nat.{_+_}
 use native.Mathlib.Omega.{arith}
 use lib.ListN.{length}
 use Rattle.octets.proofs.Joining.{start, next, done}

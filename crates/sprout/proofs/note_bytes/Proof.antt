@@ -3,7 +3,7 @@ use Rattle.octets.specs.Numbers.{littleBytes}
 use Rattle.octets.proofs.NumberLaws.{little-bytes-length}
 use Rattle.sprout.specs.Hashes.{noteBytes}
 use mathlib.Core.List.{List, [], _∷_, _++_}
-use Prim.Native.Nat.{ℕ, _+_}
+use Prim.Native.Nat.{ℕ}
 use native.Mathlib.Omega.{arith}
 use lib.ListN.{length}
 use Rattle.octets.specs.Parts.{zeros}

@@ -1,4 +1,4 @@
-use mathlib.Core.Path.{_≡_, refl, sym, _∙_}
+use mathlib.Core.Path.{refl, sym, _∙_}
 use Rattle.refusals.specs.Table.{rowsIn, numbered}
 use Rattle.refusals.proofs.TableLaws.{run-stops, run-goes-on}
 use Rattle.statement.specs.CaseTable.{no1, no4, no5, no7, publicTable, witnessTable, caseTable}

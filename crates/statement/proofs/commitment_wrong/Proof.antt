@@ -2,7 +2,6 @@ use Rattle.statement.specs.CaseTable.{commitmentWrong}
 use borrow.Author.Needs.{needs}
 use Rattle.statement.proofs.commitment_wrong.Statement.{statement}
 use Rattle.statement.proofs.commitment_wrong.Tie as tie
-use Rattle.sprout.proofs.commitment.Reads as commitment-reads′
 
 returns : tie.Need-returns
 unfolding commitmentWrong

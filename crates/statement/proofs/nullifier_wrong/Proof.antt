@@ -2,7 +2,6 @@ use Rattle.statement.specs.CaseTable.{nullifierWrong}
 use borrow.Author.Needs.{needs}
 use Rattle.statement.proofs.nullifier_wrong.Statement.{statement}
 use Rattle.statement.proofs.nullifier_wrong.Tie as tie
-use Rattle.sprout.proofs.nullifier.Reads as nullifier-reads′
 
 returns : tie.Need-returns
 unfolding nullifierWrong

@@ -1,5 +1,4 @@
 use borrow.Author.Tests.{eq-eqb, ne-eqb}
-use borrow.Author.Needs.{needs}
 use Rattle.refusals.proofs.Answer.refuses_up_to.Statement.{statement}
 use Rattle.refusals.proofs.Answer.refuses_up_to.Tie as tie
 

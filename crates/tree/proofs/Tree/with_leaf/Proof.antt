@@ -2,7 +2,6 @@ use mathlib.Core.Path.{sym, ap, _∙_}
 use Prim.Native.Nat.{ℕ, _+_}
 use mathlib.Core.List.{List}
 use native.Mathlib.Omega.{arith}
-use Rattle.tree.specs.declared.Tree.{Tree}
 use Rattle.tree.proofs.Grown.{with-leaf, with-full}
 use borrow.Author.Needs.{needs}
 use Rattle.tree.proofs.Tree.with_leaf.Statement.{statement}

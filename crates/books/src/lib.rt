@@ -4,7 +4,7 @@
 ghost use mathlib.Core.Path.{_≡_};
 ghost use Prim.Native.Nat.{_<_};
 ghost use Rattle.books.specs.Tally.{full, countOf, raised, tallyOf};
-ghost use Rattle.books.specs.DayList.{isOn, entered, columns, rowsOf, enteredApart};
+ghost use Rattle.books.specs.DayList.{isOn, entered};
 use units::Row;
 
 // The last number of a count.
@@ -96,33 +96,4 @@ pub fn enter(list: &mut [DayRow], at: Row, row: DayRow) -> bool
         return true;
     }
     false
-}
-
-// The same on a day list that is kept apart, a slice for each column: its rows are as many as the
-// shortest column has numbers.
-pub fn enter_apart(
-    seals: &mut [u32],
-    answers: &mut [u8],
-    places: &mut [u8],
-    at: Row,
-    row: DayRow,
-) -> bool
-    ensures { λ r. ⌜ r ≡ isOn (at .0) (rowsOf (columns (now (seals .entry)) (now (answers .entry)) (now (places .entry)))) ⌝ }
-    ensures { λ _. ⌜ columns (now (seals .exit)) (now (answers .exit)) (now (places .exit))
-        ≡ enteredApart (at .0) row (columns (now (seals .entry)) (now (answers .entry)) (now (places .entry))) ⌝ }
-{
-    let i = at.index();
-    if seals.len() <= i {
-        return false;
-    }
-    if answers.len() <= i {
-        return false;
-    }
-    if places.len() <= i {
-        return false;
-    }
-    seals[i] = row.seal;
-    answers[i] = row.answer;
-    places[i] = row.place;
-    true
 }

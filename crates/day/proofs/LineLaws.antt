@@ -1,14 +1,13 @@
 -- The pieces that the calls write are the lines of the definitions; and a day, one entry more at a time.
 -- Assumes nothing.
 use Prim.Native.Nat.{ℕ, zero, suc, _+_, _*_, _≤_, _<_}
-use mathlib.Core.Path.{_≡_, refl, sym, ap, _∙_}
+use mathlib.Core.Path.{_≡_, refl, ap, _∙_}
 use mathlib.Core.Bool.{Bool, true, false}
 use mathlib.Core.List.{List, [], _∷_, _++_, append-assoc, flatMap}
 use native.Mathlib.Numerals.{add-one}
 use native.Mathlib.Omega.{arith}
 use lib.ListN.{length, getD, drop}
 use lib.Seq.{drop-cons, drop-length}
-use borrow.Author.Tests.{ltb-true, ltb-false}
 use Rattle.text.specs.Words.{ascii}
 use Rattle.text.specs.Decimal.{decimal}
 use Rattle.text.specs.Pen.{Pen, Wrote}
@@ -16,11 +15,10 @@ use Rattle.text.proofs.PenLaws.{start, then, text-as}
 use Rattle.books.specs.declared.DayRow.{DayRow}
 use Rattle.books.specs.declared.Tally.{Tally}
 use Rattle.books.specs.declared.Tallied.{Tallied}
-use Rattle.books.specs.DayList.{isOn, entered, Columns, rowsIn, rowsOf, enteredApart}
+use Rattle.books.specs.DayList.{isOn, entered}
 use Rattle.books.specs.Tally.{tallyOf}
-use Rattle.books.proofs.DayLaws.{apart-past, apart-on}
 use Rattle.day.specs.declared.Entry.{Entry}
-use Rattle.day.specs.Lines.{row, threeLine, rowLine, yesOrNo, enterLine, tallyLine, countLine, isPass, dayLines, lastEntry, entries, unevenRow, unevenFirst, unevenThen, unevenLast, unevenLines, bothLines}
+use Rattle.day.specs.Lines.{row, threeLine, rowLine, yesOrNo, enterLine, tallyLine, countLine, isPass, dayLines, lastEntry, entries, bothLines}
 
 pub three-as : (word : List ℕ) (a b c : ℕ) → word ++ ((ascii " " ++ decimal a) ++ ((ascii " " ++ decimal b) ++ ((ascii " " ++ decimal c) ++ ascii "\n"))) ≡ threeLine word a b c
 unfolding threeLine
@@ -52,15 +50,6 @@ seventh (suc (suc (suc (suc zero)))) h = absurd (omega arith)
 seventh (suc (suc (suc (suc (suc zero))))) h = absurd (omega arith)
 seventh (suc (suc (suc (suc (suc (suc zero)))))) h = refl
 seventh (suc (suc (suc (suc (suc (suc (suc i))))))) h = refl
-
--- a row of columns
-pub row-at : (s a p : List ℕ) (i : ℕ) (d : DayRow) → i < length s → i < length a → i < length p → row (getD s i 0) (getD a i 0) (getD p i 0) ≡ getD (rowsIn s a p) i d
-unfolding rowsIn
-row-at [] a p i d h k l = absurd (omega arith)
-row-at (s ∷ ss) [] p i d h k l = absurd (omega arith)
-row-at (s ∷ ss) (a ∷ bs) [] i d h k l = absurd (omega arith)
-row-at (s ∷ ss) (a ∷ bs) (p ∷ ps) zero d h k l = refl
-row-at (s ∷ ss) (a ∷ bs) (p ∷ ps) (suc i) d h k l = row-at ss bs ps i d (omega arith) (omega arith) (omega arith)
 
 -- A DAY SO FAR: what was written for the first i of the entries es, and that with the lines of the others it is the whole
 pub record SoFar (whole : List ℕ) (es : List Entry) (i : ℕ) (rows : List DayRow) (t : Tally) (p q : Pen) : Type 0 where
@@ -97,27 +86,7 @@ pub entries-seven : length entries ≡ 7
 unfolding entries
 entries-seven = refl
 
--- the uneven columns, by what the calls answered and left
-pub uneven-as : (m n : ℕ) (first then last : Columns) (past on : Bool) → m ≡ 3 → n ≡ 2 → first ≡ unevenFirst → past ≡ isOn m (rowsOf first)
-    → then ≡ enteredApart m unevenRow first → on ≡ isOn n (rowsOf then) → last ≡ enteredApart n unevenRow then
-    → enterLine m past ++ (enterLine n on ++ (rowLine (row (getD (last .seals) 2 0) (getD (last .answers) 2 0) (getD (last .places) 2 0))
-    ++ rowLine (row (getD (last .seals) 3 0) 0 (getD (last .places) 3 0)))) ≡ unevenLines
-unfolding unevenLines unevenThen unevenLast
-uneven-as m n first then last past on hm hn hf hp ht ho hl = rw (ho, hl, hp, ht, hf, hm, hn) (simp append-assoc)
-
 -- a pass and then a refusal
 pub both-as : (t : Tally) {c d : Tallied} → c ≡ tallyOf t true → d ≡ tallyOf (c .tally) false → countLine c ++ countLine d ≡ bothLines t
 unfolding bothLines
 both-as t h k = rw (k, h)
-
--- columns of four rows
-pub record Square (s a p : List ℕ) : Type 0 where
-  pub seals : length s ≡ 4
-  pub answers : length a ≡ 4
-  pub places : length p ≡ 4
-
-pub square-rows : {s a p : List ℕ} → Square s a p → length (rowsIn s a p) ≡ 4
-square-rows {s} {a} {p} z =
-    let past = apart-past 4 (row 0 0 0) s a p (omega (arith, z .seals, z .answers, z .places)) .0 in
-    let on = apart-on 3 (row 0 0 0) s a p (omega (arith, z .seals, z .answers, z .places)) .0 in
-    omega (arith, ltb-false 4 (length (rowsIn s a p)) (sym past), ltb-true 3 (length (rowsIn s a p)) (sym on))

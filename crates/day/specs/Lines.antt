@@ -4,14 +4,13 @@ use Prim.Native.Nat.{ℕ}
 use mathlib.Core.Bool.{Bool, true, false}
 use mathlib.Core.List.{List, [], _∷_, _++_, flatMap}
 use lib.Dec.{eqb}
-use lib.ListN.{getD, replicate}
-use Rattle.octets.specs.Parts.{zeros}
+use lib.ListN.{replicate}
 use Rattle.text.specs.Words.{ascii}
 use Rattle.text.specs.Decimal.{decimal}
 use Rattle.books.specs.declared.DayRow.{DayRow}
 use Rattle.books.specs.declared.Tally.{Tally}
 use Rattle.books.specs.declared.Tallied.{Tallied}
-use Rattle.books.specs.DayList.{isOn, entered, Columns, columns, rowsOf, enteredApart}
+use Rattle.books.specs.DayList.{isOn, entered}
 use Rattle.books.specs.History.{empty}
 use Rattle.books.specs.Tally.{tallyOf}
 use Rattle.day.specs.declared.Entry.{Entry}
@@ -67,25 +66,6 @@ entries =
 unfoldable pub wholeDay : List ℕ
 wholeDay = dayLines entries (replicate 4 (row 0 0 0)) empty
 
--- COLUMNS OF UNEQUAL LENGTHS: a fourth row is past the end of the shortest, and no column changes; a third is on the list
-abbrev pub unevenRow : DayRow
-unevenRow = row 7007 9 3
-
-unfoldable pub unevenFirst : Columns
-unevenFirst = columns (zeros 4) (zeros 3) (zeros 4)
-
-unfoldable pub unevenThen : Columns
-unevenThen = enteredApart 3 unevenRow unevenFirst
-
-unfoldable pub unevenLast : Columns
-unevenLast = enteredApart 2 unevenRow unevenThen
-
-unfoldable pub unevenLines : List ℕ
-unevenLines =
-    enterLine 3 (isOn 3 (rowsOf unevenFirst)) ++ enterLine 2 (isOn 2 (rowsOf unevenThen))
-    ++ rowLine (row (getD (unevenLast .seals) 2 0) (getD (unevenLast .answers) 2 0) (getD (unevenLast .places) 2 0))
-    ++ rowLine (row (getD (unevenLast .seals) 3 0) 0 (getD (unevenLast .places) 3 0))
-
 -- A PASS AND THEN A REFUSAL, from a tally of any counts: counted in place, and counted by value
 unfoldable pub bothLines : Tally → List ℕ
 bothLines t = countLine (tallyOf t true) ++ countLine (tallyOf (tallyOf t true .tally) false)
@@ -99,6 +79,6 @@ fullLines =
     fromLines (tally 4294967294 4294967294 0) ++ fromLines (tally 4294967295 0 0) ++ fromLines (tally 5 4294967295 7)
     ++ fromLines (tally 5 7 4294967295)
 
--- ALL OF IT: a day in place and the same day in columns, the uneven columns, and the full tallies
+-- ALL OF IT
 unfoldable pub allLines : List ℕ
-allLines = wholeDay ++ wholeDay ++ unevenLines ++ fullLines
+allLines = wholeDay ++ fullLines

@@ -1,5 +1,5 @@
 // A day at the scanner, as the gate runs it: seven answers are entered in a list of four rows and
-// counted, once in place and once on plain values, and then tallies that are full or nearly so.
+// counted, and then tallies that are full or nearly so, in place and on plain values.
 // What is printed is the contract of `render`: a text that is worked out by the books' definitions. The
 // books themselves are left to `books`.
 ghost use mathlib.Core.Path.{_≡_};
@@ -7,10 +7,9 @@ ghost use Prim.Native.Nat.{_+_};
 ghost use mathlib.Core.List.{flatMap};
 ghost use lib.ListN.{length, getD};
 ghost use Rattle.text.specs.Pen.{pen, Wrote, Rendered};
-ghost use Rattle.books.specs.DayList.{columns, rowsOf};
 ghost use Rattle.books.specs.History.{empty as emptyTally};
 ghost use Rattle.books.specs.Tally.{tallyOf};
-ghost use Rattle.day.specs.Lines.{row as rowOf, tally as tallyWith, threeLine, rowLine, yesOrNo, enterLine, tallyLine, countLine, entry, lastEntry, entries, wholeDay, unevenLines, bothLines, fromLines, fullLines, allLines};
+ghost use Rattle.day.specs.Lines.{row as rowOf, tally as tallyWith, threeLine, rowLine, yesOrNo, enterLine, tallyLine, countLine, entry, lastEntry, entries, wholeDay, bothLines, fromLines, fullLines, allLines};
 ghost use Rattle.day.specs.Page.{pageOf};
 use books::DayRow;
 use books::Tallied;
@@ -161,22 +160,6 @@ fn put_list(out: &mut [u8], at: usize, rows: [DayRow; 4]) -> usize
     next
 }
 
-fn put_columns(
-    out: &mut [u8],
-    at: usize,
-    seals: [u32; 4],
-    answers: [u8; 4],
-    places: [u8; 4],
-) -> usize
-    ensures { λ r. ⌜ Wrote 268 (flatMap rowLine (rowsOf (columns seals answers places))) (pen (now (out .entry)) at) (pen (now (out .exit)) r) ⌝ }
-{
-    let mut next = at;
-    for i in 0..4 {
-        next = put_row(out, next, seals[i], answers[i], places[i]);
-    }
-    next
-}
-
 fn empty() -> Tally
     ensures { λ r. ⌜ r ≡ emptyTally ⌝ }
 {
@@ -187,7 +170,7 @@ fn empty() -> Tally
     }
 }
 
-fn put_day_in_place(out: &mut [u8]) -> usize
+fn put_day(out: &mut [u8]) -> usize
     ensures { λ r. ⌜ Wrote 1107 wholeDay (pen (now (out .entry)) 0) (pen (now (out .exit)) r) ⌝ }
 {
     let none = DayRow {
@@ -211,50 +194,6 @@ fn put_day_in_place(out: &mut [u8]) -> usize
     }
     let listed = put_list(out, next, rows);
     put_tally(out, listed, t)
-}
-
-fn put_day_apart(out: &mut [u8], start: usize) -> usize
-    ensures { λ r. ⌜ Wrote 1107 wholeDay (pen (now (out .entry)) start) (pen (now (out .exit)) r) ⌝ }
-{
-    let mut seals = [0u32; 4];
-    let mut answers = [0u8; 4];
-    let mut places = [0u8; 4];
-    let mut t = empty();
-    let mut next = start;
-    for i in 0..7 {
-        let e = nth(i);
-        let at = e.at;
-        let row = e.row;
-        let ok = books::enter_apart(&mut seals, &mut answers, &mut places, at, row);
-        let entered = put_entry(out, next, at, ok);
-        let c = books::counted(t, row.answer == 0);
-        t = c.tally;
-        next = put_counted(out, entered, c);
-    }
-    let listed = put_columns(out, next, seals, answers, places);
-    put_tally(out, listed, t)
-}
-
-// Columns of unequal lengths: a fourth row is past the end of the shortest, and no column changes.
-fn put_uneven(out: &mut [u8], at: usize) -> usize
-    ensures { λ r. ⌜ Wrote 196 unevenLines (pen (now (out .entry)) at) (pen (now (out .exit)) r) ⌝ }
-{
-    let mut seals = [0u32; 4];
-    let mut answers = [0u8; 3];
-    let mut places = [0u8; 4];
-    let row = DayRow {
-        seal: 7007,
-        answer: 9,
-        place: 3,
-    };
-    let fourth = Row::of(3);
-    let third = Row::of(2);
-    let past = books::enter_apart(&mut seals, &mut answers, &mut places, fourth, row);
-    let refused = put_entry(out, at, fourth, past);
-    let on = books::enter_apart(&mut seals, &mut answers, &mut places, third, row);
-    let entered = put_entry(out, refused, third, on);
-    let shown = put_row(out, entered, seals[2], answers[2], places[2]);
-    put_row(out, shown, seals[3], 0, places[3])
 }
 
 // A pass and then a refusal, each counted in place.
@@ -299,12 +238,10 @@ fn put_full(out: &mut [u8], at: usize) -> usize
 }
 
 fn put_all(out: &mut [u8]) -> usize
-    ensures { λ r. ⌜ Wrote 3674 allLines (pen (now (out .entry)) 0) (pen (now (out .exit)) r) ⌝ }
+    ensures { λ r. ⌜ Wrote 2371 allLines (pen (now (out .entry)) 0) (pen (now (out .exit)) r) ⌝ }
 {
-    let in_place = put_day_in_place(out);
-    let apart = put_day_apart(out, in_place);
-    let uneven = put_uneven(out, apart);
-    put_full(out, uneven)
+    let day = put_day(out);
+    put_full(out, day)
 }
 
 // All lines, from the start of a buffer that has room for them.

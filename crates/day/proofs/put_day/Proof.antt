@@ -9,8 +9,8 @@ use Rattle.day.specs.declared.Page.{Page}
 use Rattle.day.specs.Lines.{row, dayLines, entries, wholeDay}
 use Rattle.day.proofs.LineLaws.{SoFar, none-yet, one-entry, no-more, entries-seven}
 use borrow.Author.Needs.{needs}
-use Rattle.day.proofs.put_day_in_place.Statement.{statement}
-use Rattle.day.proofs.put_day_in_place.Tie as tie
+use Rattle.day.proofs.put_day.Statement.{statement}
+use Rattle.day.proofs.put_day.Tie as tie
 
 abbrev Inv-loop : tie.InvT-loop
 Inv-loop out₀ rows₀ t₀ next₀ i₀ out rows t next i = (i ≤ 7) × ((length out ≡ length out₀) × SoFar wholeDay entries i rows t (pen out₀ 0) (pen out next))
@@ -47,8 +47,8 @@ returns c =
     let q = l .before .before .before in
     text-as (omega arith) refl (no-more (omega (arith, entries-seven)) (q .loop .inv .1 .1) (l .put-list .ensures) (t .put-tally .ensures))
 
-pub put-day-in-place-spec : {M : Type 1} → statement M
-put-day-in-place-spec =
+pub put-day-spec : {M : Type 1} → statement M
+put-day-spec =
     tie.close
     (tie.spec
     Inv-loop

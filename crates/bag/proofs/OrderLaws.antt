@@ -10,7 +10,7 @@ use native.Mathlib.Omega.{arith}
 use borrow.Author.Tests.{eq-eqb, ne-eqb, eqb-true, leb-true}
 use lib.Dec.{eqb, leb}
 use lib.ListN.{length}
-use Rattle.refusals.proofs.TableLaws.{and-both}
+use Rattle.octets.proofs.BoolLaws.{and-both}
 use Rattle.bag.specs.declared.Entry.{Entry}
 use Rattle.bag.specs.Contents.{rowCount, rowStart, entryOf, kindAt, inOrder, laidOut}
 

@@ -8,7 +8,8 @@ use mathlib.Core.List.{List}
 use Rattle.octets.specs.Parts.{Bytes, zeros}
 use Rattle.octets.specs.Numbers.{littleBytes}
 use Rattle.refusals.specs.Table.{isAccepted}
-use Rattle.refusals.proofs.TableLaws.{by-test, and-both}
+use Rattle.octets.proofs.BoolLaws.{and-both}
+use Rattle.refusals.proofs.TableLaws.{by-test}
 use Rattle.seal.specs.declared.Calibration.{Calibration}
 use Rattle.seal.specs.declared.Read.{Read}
 use Rattle.seal.specs.declared.Read.the-variants.{Seal, Broken}

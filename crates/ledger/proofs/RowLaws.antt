@@ -1,17 +1,17 @@
 -- The rows of a table: which they are, what a turn of each loop over them learns, and what moving bytes up makes of them.
 -- Assumes nothing.
-use Prim.Native.Nat.{ℕ, zero, suc, _+_, _-_, _*_, _<_, _≤_}
-use mathlib.Core.Path.{_≡_, refl, sym, ap, _∙_}
+use Prim.Native.Nat.{ℕ, suc, _+_, _-_, _*_, _<_, _≤_}
+use mathlib.Core.Path.{_≡_, sym, _∙_}
 use mathlib.Core.Bool.{true, false, _&&_, _||_}
 use mathlib.Core.List.{List, [], _∷_, _++_, append-assoc}
 use native.Mathlib.Numerals.{add-one}
 use native.Mathlib.Omega.{arith}
 use lib.ListN.{length, getD, take, drop, set, take-append-drop, drop-of-length-le, length-append, List·getD-append}
-use lib.Seq.{drop-cons, drop-drop, take-suc, take-take, take-append-le, drop-at, length-take-le, set-at, getD-take, append-snoc}
+use lib.Seq.{drop-cons, take-suc, take-take, take-append-le, drop-at, length-take-le, set-at, getD-take, append-snoc}
 use Rattle.octets.specs.Parts.{pasted}
 use Rattle.octets.specs.Rows.{rowsOf, flat}
 use Rattle.octets.proofs.PartLaws.{pasted-is}
-use Rattle.octets.proofs.RowLaws.{rows-length, rows-at, flat-append, flat-rows}
+use Rattle.octets.proofs.RowLaws.{rows-length, rows-at, take-rows, drop-rows, flat-append, flat-rows}
 use Rattle.ledger.specs.Sorted.{row, isLess, isEqual, placeOf, isGap, rising, find}
 use Rattle.ledger.specs.Rows.{byteOrder, rowAt, shifted, withRow, among}
 use Rattle.ledger.specs.declared.Order.the-variants.{Less, Equal, Greater}
@@ -52,21 +52,6 @@ unfolding among
 roll-end n i t r h =
     let k : length (rowsOf n t) ≤ i = omega (arith, rows-length n t) in
     rw (drop-of-length-le (rowsOf n t) k)
-
-take-rows : (k n : ℕ) (t : List ℕ) → k ≤ n → take k (rowsOf n t) ≡ rowsOf k t
-unfolding rowsOf
-take-rows zero n t h = refl
-take-rows (suc k) zero t h = absurd (omega arith)
-take-rows (suc k) (suc n) t h = ap (λ (l : List (List ℕ)). take 32 t ∷ l) (take-rows k n (drop 32 t) (omega arith))
-
-drop-rows : (k n : ℕ) (t : List ℕ) → k ≤ n → drop k (rowsOf n t) ≡ rowsOf (n - k) (drop (k * 32) t)
-unfolding rowsOf
-drop-rows zero n t h = let e : n - 0 ≡ n = omega arith in rw e
-drop-rows (suc k) zero t h = absurd (omega arith)
-drop-rows (suc k) (suc n) t h =
-    let e : suc n - suc k ≡ n - k = omega arith in
-    let f : 32 + k * 32 ≡ suc k * 32 = omega arith in
-    drop-rows k n (drop 32 t) (omega arith) ∙ rw (e, drop-drop (k * 32) 32 t, f)
 
 -- the bytes that the loop has moved up: none, and one more
 pub shifted-none : (t : List ℕ) (to : ℕ) → t ≡ shifted t to to

@@ -1,11 +1,12 @@
 -- The table of empty roots: one test, which antt computes over the whole table, that each is the parent of the one before it with itself.
 -- Assumes nothing.
 use mathlib.Core.Path.{_≡_, refl, sym, ap, ap₂, _∙_}
-use mathlib.Core.Bool.{Bool, true, false, _&&_, false≢true}
+use mathlib.Core.Bool.{Bool, true, _&&_}
 use mathlib.Core.List.{List, [], _∷_}
 use Prim.Native.Nat.{ℕ, zero, suc, _*_, _<_}
 use native.Mathlib.Omega.{arith}
 use lib.ListN.{length, getD, drop}
+use Rattle.octets.proofs.BoolLaws.{and-both}
 use Rattle.octets.specs.Parts.{field, listed, same}
 use Rattle.octets.specs.Numbers.{big, bigBytes}
 use Rattle.octets.specs.Rows.{rowsOf}
@@ -57,10 +58,6 @@ table =
 chained : List ℕ → List (List ℕ) → Bool
 chained x [] = true
 chained x (y ∷ l) = same (parentOf x x) y && chained y l
-
-and-both : (a b : Bool) → (a && b) ≡ true → (a ≡ true) × (b ≡ true)
-and-both true b h = (refl, h)
-and-both false b h = absurd (false≢true h)
 
 grows : (k : ℕ) (e : List ℕ) → emptyAt parentOf (parentOf e e) k ≡ emptyAt parentOf e (suc k)
 unfolding emptyAt

@@ -1,3 +1,4 @@
+pub mod BoolLaws
 pub mod ByteLaws
 pub mod Filling
 pub mod Joining

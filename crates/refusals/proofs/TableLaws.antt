@@ -2,10 +2,11 @@
 -- Assumes nothing.
 use Prim.Native.Nat.{ℕ}
 use mathlib.Core.Path.{_≡_, refl, sym, ap, _∙_}
-use mathlib.Core.Bool.{Bool, true, false, not, _&&_, false≢true}
+use mathlib.Core.Bool.{Bool, true, false, not, false≢true}
 use mathlib.Core.List.{List, [], _∷_, _++_, append-nil, append-assoc}
 use borrow.Author.Tests.{eqb-true, eqb-false, not-true, not-false}
 use lib.Dec.{eqb}
+use Rattle.octets.proofs.BoolLaws.{and-both}
 use Rattle.refusals.specs.declared.Answer.{Answer}
 use Rattle.refusals.specs.Table.{Row, row, answer, accepted, isAccepted, first, rowsIn, forEach, None, numbered}
 
@@ -13,10 +14,6 @@ use Rattle.refusals.specs.Table.{Row, row, answer, accepted, isAccepted,
 pub by-test : {B : Type 0} (b : Bool) → (b ≡ true → B) → (b ≡ false → B) → B
 by-test true f g = f refl
 by-test false f g = g refl
-
-pub and-both : (a b : Bool) → (a && b) ≡ true → (a ≡ true) × (b ≡ true)
-and-both true b h = (refl, h)
-and-both false b h = absurd (false≢true h)
 
 module _ (r : Row) (rs : List Row) where
   pub first-here : r .applies ≡ true → first (r ∷ rs) ≡ answer (r .number) (r .place)

@@ -11,7 +11,8 @@ use borrow.Author.Tests.{eqb-true, eqb-false, ne-eqb, not-true, leb-true, leb-fa
 use lib.Dec.{leb}
 use Rattle.refusals.specs.declared.Answer.{Answer}
 use Rattle.refusals.specs.Table.{Row, answer, isAccepted, first, numbered, lower, refusesUpTo}
-use Rattle.refusals.proofs.TableLaws.{by-test, and-both, first-here, first-next, numbered-here, numbered-next}
+use Rattle.octets.proofs.BoolLaws.{and-both}
+use Rattle.refusals.proofs.TableLaws.{by-test, first-here, first-next, numbered-here, numbered-next}
 
 -- the numbers never fall
 unfoldable pub neverFalls : List Row → Bool

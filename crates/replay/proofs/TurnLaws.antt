@@ -19,7 +19,7 @@ use Rattle.text.specs.Pen.{pen, Wrote}
 use Rattle.text.proofs.PenLaws.{text-as}
 use Rattle.refusals.specs.declared.Answer.{Answer}
 use Rattle.refusals.specs.Table.{answer, accepted, first}
-use Rattle.refusals.proofs.TableLaws.{and-both}
+use Rattle.octets.proofs.BoolLaws.{and-both}
 use Rattle.ledger.specs.declared.Ledger.{Ledger}
 use Rattle.ledger.specs.declared.Answered.{Answered}
 use Rattle.ledger.specs.Ledgers.{openTable, openedOf, rollAfterOpen, closeTable, closedOf, rollAfterClose}

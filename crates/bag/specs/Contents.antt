@@ -36,9 +36,16 @@ unfoldable pub inOrder : ℕ → ℕ → ℕ → List ℕ → Bool
 inOrder zero i at b = eqb at (length b)
 inOrder (suc n) i at b = eqb (entryOf i b .kind) (kindAt i) && eqb (entryOf i b .offset) at && inOrder n (i + 1) (at + entryOf i b .size) b
 
--- the layout: at most 65,536 bytes, 1 to 8 rows, the first body right after the table
+-- the longest bag, and the most rows
+abbrev pub mostBytes : ℕ
+mostBytes = 65536
+
+abbrev pub mostRows : ℕ
+mostRows = 8
+
+-- the layout: not too long, one row or more and not too many, the first body right after the table
 unfoldable pub laidOut : List ℕ → Bool
-laidOut b = leb (length b) 65536 && leb 1 (rowCount b) && leb (rowCount b) 8 && inOrder (rowCount b) 0 (rowStart (rowCount b)) b
+laidOut b = leb (length b) mostBytes && leb 1 (rowCount b) && leb (rowCount b) mostRows && inOrder (rowCount b) 0 (rowStart (rowCount b)) b
 
 -- the body of row i
 unfoldable pub bodyOf : ℕ → List ℕ → List ℕ

@@ -14,6 +14,11 @@ use refusals::Answer;
 use seal::Calibration;
 use seal::Read;
 
+// The longest bag, and the most rows of its table of contents.
+pub const MOST_BYTES: usize = 65536;
+
+const MOST_ROWS: usize = 8;
+
 // A row of the table of contents: what its body is, where it starts, how long it is.
 struct Entry {
     kind: u8,
@@ -81,14 +86,14 @@ fn is_in_order(bag: &[u8], n: usize) -> bool
 fn is_laid_out(bag: &[u8]) -> bool
     ensures { λ r. ⌜ r ≡ laidOut (now (bag .entry)) ⌝ }
 {
-    if 65536 < bag.len() {
+    if MOST_BYTES < bag.len() {
         return false;
     }
     let n = row_count(bag);
     if n < 1 {
         return false;
     }
-    if 8 < n {
+    if MOST_ROWS < n {
         return false;
     }
     is_in_order(bag, n)

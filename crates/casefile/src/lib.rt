@@ -10,6 +10,9 @@ use units::Amount;
 use units::Position;
 use units::Which;
 
+// How many bytes a case has.
+pub const CASE_LENGTH: usize = 4210;
+
 // Where the field of a pair lies: its first stands at start, and its second step bytes further on.
 fn spot(i: Which, start: usize, step: usize) -> usize
     requires { ⌜ (start ≤ 4210) × (step ≤ 4210) ⌝ }
@@ -25,7 +28,7 @@ fn spot(i: Which, start: usize, step: usize) -> usize
 pub fn has_length(case: &[u8]) -> bool
     ensures { λ r. ⌜ r ≡ hasLength (now (case .entry)) ⌝ }
 {
-    case.len() == 4210
+    case.len() == CASE_LENGTH
 }
 
 pub fn vpub_old(case: &[u8]) -> Amount

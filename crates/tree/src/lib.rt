@@ -9,6 +9,7 @@ ghost use Rattle.nodes.specs.Trees.{push, joinOf};
 ghost use Rattle.nodes.specs.CommitmentTree.{parentOf, emptyRoot};
 ghost use Rattle.tree.specs.Record.{freshOf, withLeafOf, recordRoot, stepOf, pathEnd};
 use units::Position;
+use units::TREE_LEAVES;
 
 // How many leaves there are, and for each level from the leaves to the root a node of 32 bytes. The
 // node of level k waits for its right sibling where bit k of the count is 1; the root of a full tree
@@ -64,7 +65,7 @@ impl Tree {
     pub fn with_leaf(mut self, leaf: [u8; 32]) -> Tree
         ensures { λ r. ⌜ r ≡ withLeafOf self leaf ⌝ }
     {
-        if self.leaves >= 536870912 {
+        if self.leaves >= TREE_LEAVES {
             return self;
         }
         let old = self.nodes;

@@ -8,6 +8,12 @@ ghost use lib.Dec.{eqb, leb, ltb};
 ghost use Rattle.units.specs.Limits.{maxMoney, treeLeaves};
 ghost use Rattle.units.specs.Pairs.{numberOf};
 
+// All the money there will ever be, in zatoshi: the highest public value.
+pub const ALL_MONEY: u64 = 2100000000000000;
+
+// How many leaves the commitment tree can have, 2 ^ 29.
+pub const TREE_LEAVES: u32 = 536870912;
+
 // An amount in zatoshi.
 pub struct Amount(u64);
 
@@ -71,7 +77,7 @@ impl Amount {
     pub fn is_money(self) -> bool
         ensures { λ r. ⌜ r ≡ leb (self .0) maxMoney ⌝ }
     {
-        self.0 <= 2100000000000000
+        self.0 <= ALL_MONEY
     }
 }
 
@@ -86,7 +92,7 @@ impl Position {
     pub fn is_leaf(self) -> bool
         ensures { λ r. ⌜ r ≡ ltb (self .0) treeLeaves ⌝ }
     {
-        self.0 < 536870912
+        self.0 < TREE_LEAVES
     }
 
     // Whether a node is its parent's right child.

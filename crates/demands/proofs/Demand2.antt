@@ -12,9 +12,8 @@ use Rattle.refusals.proofs.TableLaws.{by-test, first-none, none-first}
 use Rattle.refusals.proofs.TwoTables.{lower-accepts}
 use Rattle.casefile.specs.Layout.{description, oldNote, newNote, lengths, total, caseLength, proofLength}
 use Rattle.casefile.specs.Fields.{anchorOf, nullifierOf}
-use Rattle.statement.specs.CaseTable.{oldCommitmentOf, hSigOf, caseTable}
-use Rattle.statement.specs.Clauses.{Clauses}
-use Rattle.statement.proofs.Clauses.{accepted-clauses, clauses-accepted}
+use Rattle.statement.specs.CaseTable.{oldCommitmentOf, pathEndOf, hSigOf, caseTable}
+use Rattle.statement.proofs.Clauses.{Clauses, accepted-clauses, clauses-accepted}
 use Rattle.ledger.specs.declared.Ledger.{Ledger}
 use Rattle.ledger.specs.Rows.{among}
 use Rattle.ledger.specs.Ledgers.{mostNullifiers, roomIn, spentRows, anchorRows, no2, no3, no6, no8, ledgerTable}
@@ -48,7 +47,7 @@ module _ (c t r : List ℕ) (l : Ledger) where
 
   -- the clauses of the case alone are the encoding, the public values, that the nullifiers differ, and the statement
   clauses-of : Valid c t r l → Clauses c
-  unfolding oldCommitmentOf hSigOf caseLength proofLength lengths description oldNote newNote total
+  unfolding oldCommitmentOf pathEndOf hSigOf caseLength proofLength lengths description oldNote newNote total
   clauses-of v =
       let e = v .rules .encoding in
       let p = v .rules .public-values in
@@ -72,7 +71,7 @@ module _ (c t r : List ℕ) (l : Ledger) where
 
   -- and with what the ledger's table says of a case that passed, they make it valid
   valid-of : Clauses c → first ledgers .number ≡ 0 → Valid c t r l
-  unfolding oldCommitmentOf hSigOf caseLength proofLength lengths description oldNote newNote total None ledgerTable rowsIn no2 no3 no6 no8
+  unfolding oldCommitmentOf pathEndOf hSigOf caseLength proofLength lengths description oldNote newNote total None ledgerTable rowsIn no2 no3 no6 no8
   valid-of k h =
       let n = first-none ledgers ledger-numbers h in
       record {

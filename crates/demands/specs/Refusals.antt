@@ -15,12 +15,11 @@ use Rattle.refusals.specs.Sentences.{Sentence, refuse, OneOf}
 use Rattle.sprout.specs.Hashes.{addressFrom, nullifierFrom, macFrom, rhoFrom}
 use Rattle.tree.specs.Record.{pathEnd}
 use Rattle.casefile.specs.Fields.{vpubOldOf, vpubNewOf, anchorOf, nullifierOf, commitmentOf, tagOf, oldKeyOf, oldAddressOf, oldValueOf, oldRhoOf, oldPositionOf, oldPathOf, newValueOf, newRhoOf, phiOf}
-use Rattle.statement.specs.Clauses.{LeavesFree}
 use Rattle.ledger.specs.declared.Ledger.{Ledger}
 use Rattle.ledger.specs.declared.Order.the-variants.{Less}
 use Rattle.ledger.specs.Rows.{byteOrder}
 use Rattle.ledger.specs.Ledgers.{mostNullifiers, mostAnchors, roomIn, spentRows, anchorRows}
-use Rattle.demands.specs.Validity.{oldNote, newNote, hSig}
+use Rattle.demands.specs.Validity.{LeavesFree, oldNote, newNote, hSig}
 
 -- DAMAGE. Rows strictly rise: each is below the next
 unfoldable pub Rises : List (List ℕ) → Type 0

@@ -7,15 +7,18 @@ use mathlib.Core.Path.{_≡_}
 use mathlib.Core.Bool.{false}
 use mathlib.Core.Logic.{_⊎_}
 use mathlib.Core.List.{List, List·Memᴰ}
-use lib.ListN.{length}
+use lib.ListN.{length, getD}
 use Rattle.units.specs.Limits.{maxMoney, treeLeaves}
 use Rattle.units.specs.Pairs.{ForBoth}
 use Rattle.sprout.specs.Hashes.{addressFrom, nullifierFrom, macFrom, rhoFrom, commitmentFrom, hSigFrom}
 use Rattle.tree.specs.Record.{pathEnd}
 use Rattle.casefile.specs.Fields.{vpubOldOf, vpubNewOf, anchorOf, nullifierOf, commitmentOf, seedOf, tagOf, transactionKeyOf, oldKeyOf, oldAddressOf, oldValueOf, oldRhoOf, oldTrapdoorOf, oldPositionOf, oldPathOf, newAddressOf, newValueOf, newRhoOf, newTrapdoorOf, phiOf}
-use Rattle.statement.specs.Clauses.{LeavesFree}
 use Rattle.ledger.specs.declared.Ledger.{Ledger}
 use Rattle.ledger.specs.Ledgers.{mostNullifiers, roomIn, spentRows, anchorRows, damaged}
+
+-- a key of 252 bits leaves the top four bits of its first byte free
+abbrev pub LeavesFree : List ℕ → Type 0
+LeavesFree key = getD key 0 0 ≤ 15
 
 -- a note's commitment, of old note i and of new note i
 abbrev pub oldNote : ℕ → List ℕ → List ℕ

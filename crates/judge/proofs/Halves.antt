@@ -8,7 +8,7 @@ use lib.Dec.{eqb}
 use Rattle.refusals.specs.Table.{Row, rowsIn, first, numbered, lower}
 use Rattle.refusals.proofs.TwoTables.{neverFalls, those, first-lower}
 use Rattle.casefile.specs.Fields.{anchorOf, nullifierOf}
-use Rattle.statement.specs.CaseTable.{no1, no4, no5, no7, no9, no10, no11, no12, no13, no14, no15, no16, publicTable, witnessTable, caseTable}
+use Rattle.statement.specs.CaseTable.{no1, no4, no5, no7, no9, no10, no11, no12, no13, no14, no15, no16, publicTable, derivedRefusals, claimRefusals, witnessTable, caseTable}
 use Rattle.ledger.specs.declared.Ledger.{Ledger}
 use Rattle.ledger.specs.Ledgers.{no2, no3, no6, no8, ledgerTable}
 use Rattle.judge.specs.Judging.{judgeTable, frontTable, answerOf}
@@ -27,7 +27,7 @@ module _ (c t r : List ℕ) (l : Ledger) where
   rises = refl
 
   own-rows : those ofCase true (judgeTable c t r l) ≡ caseTable c
-  unfolding judgeTable caseTable witnessTable rowsIn those ofCase no1 no2 no3 no4 no5 no6 no7 no8 no9 no10 no11 no12 no13 no14 no15 no16
+  unfolding judgeTable caseTable witnessTable claimRefusals derivedRefusals rowsIn those ofCase no1 no2 no3 no4 no5 no6 no7 no8 no9 no10 no11 no12 no13 no14 no15 no16
   own-rows = refl
 
   ledger-rows : those ofCase false (judgeTable c t r l) ≡ ledgerTable t r l (anchorOf c) (nullifierOf 1 c) (nullifierOf 2 c)
@@ -64,5 +64,5 @@ module _ (c t r : List ℕ) (l : Ledger) where
   front-lower = first-lower ofCase front front-rises front-numbers ∙ ap₂ (λ (a b : List Row). lower (first a) (first b)) front-own front-ledger
 
   pub halves : judgeTable c t r l ≡ rowsIn (frontTable c t r l ++ witnessTable c)
-  unfolding judgeTable frontTable witnessTable
+  unfolding judgeTable frontTable witnessTable claimRefusals derivedRefusals
   halves = refl

@@ -14,8 +14,7 @@ use Rattle.units.specs.Limits.{maxMoney}
 use Rattle.refusals.specs.Table.{Row, None, rowsIn, first}
 use Rattle.refusals.proofs.TableLaws.{by-test, first-none}
 use Rattle.casefile.specs.Fields.{vpubOldOf, vpubNewOf, anchorOf, nullifierOf}
-use Rattle.statement.specs.Conditions.{bothPublic, aboveMoney}
-use Rattle.statement.specs.CaseTable.{no1, no4, no5, no7}
+use Rattle.statement.specs.CaseTable.{bothPublic, aboveMoney, no1, no4, no5, no7}
 use Rattle.ledger.specs.declared.Ledger.{Ledger}
 use Rattle.ledger.specs.Sorted.{isGap, find}
 use Rattle.ledger.specs.Rows.{byteOrder, Fresh, among}

@@ -7,11 +7,11 @@ use Rattle.refusals.specs.Table.{rowsIn, first}
 use Rattle.casefile.specs.Fields.{vpubOldOf, vpubNewOf, anchorOf, nullifierOf, commitmentOf, seedOf, tagOf, transactionKeyOf, oldKeyOf, oldAddressOf, oldValueOf, oldRhoOf, oldTrapdoorOf, oldPositionOf, oldPathOf, newAddressOf, newValueOf, newRhoOf, newTrapdoorOf, phiOf}
 use Rattle.casefile.specs.Agreement.{isCarried, isChecked, AgreeButCarried}
 use Rattle.casefile.proofs.AgreementLaws.{length-agrees}
-use Rattle.statement.specs.CaseTable.{no1, no4, no5, no7, no9, no10, no11, no12, no13, no14, no15, no16, rangeOf, oldCommitmentOf, straysOf, balancedOf, nullifierWrong, addressWrong, hSigOf, tagWrong, rhoWrong, commitmentWrong, witnessTable, caseTable}
+use Rattle.statement.specs.CaseTable.{no1, no4, no5, no7, no9, no10, no11, no12, no13, no14, no15, no16, rangeOf, oldCommitmentOf, straysOf, balancedOf, nullifierWrong, addressWrong, hSigOf, tagWrong, rhoWrong, commitmentWrong, pathEndOf, derivedRefusals, claimRefusals, witnessTable, caseTable}
 
 module _ (c d : List ℕ) (agree : AgreeButCarried c d) where
   pub carried-table : caseTable c ≡ caseTable d
-  unfolding isCarried isChecked vpubOldOf vpubNewOf anchorOf nullifierOf commitmentOf seedOf tagOf transactionKeyOf oldKeyOf oldAddressOf oldValueOf oldRhoOf oldTrapdoorOf oldPositionOf oldPathOf newAddressOf newValueOf newRhoOf newTrapdoorOf phiOf no1 no4 no5 no7 no9 no10 no11 no12 no13 no14 no15 no16 rangeOf oldCommitmentOf straysOf balancedOf nullifierWrong addressWrong hSigOf tagWrong rhoWrong commitmentWrong witnessTable caseTable rowsIn
+  unfolding isCarried isChecked vpubOldOf vpubNewOf anchorOf nullifierOf commitmentOf seedOf tagOf transactionKeyOf oldKeyOf oldAddressOf oldValueOf oldRhoOf oldTrapdoorOf oldPositionOf oldPathOf newAddressOf newValueOf newRhoOf newTrapdoorOf phiOf no1 no4 no5 no7 no9 no10 no11 no12 no13 no14 no15 no16 rangeOf oldCommitmentOf straysOf balancedOf nullifierWrong addressWrong hSigOf tagWrong rhoWrong commitmentWrong pathEndOf derivedRefusals claimRefusals witnessTable caseTable rowsIn
   carried-table = simp (length-agrees c d (agree .long), agree .fields)
 
   pub carried-answer : first (caseTable c) ≡ first (caseTable d)

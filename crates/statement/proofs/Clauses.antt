@@ -1,21 +1,52 @@
--- A case alone is accepted exactly when each of its clauses holds.
+-- A case alone is accepted exactly when each of its clauses holds: a clause for each refusal that needs no ledger, under that refusal's number.
 -- Assumes nothing.
-use Prim.Native.Nat.{ℕ}
+use Prim.Native.Nat.{ℕ, _+_, _<_, _≤_}
 use mathlib.Core.Path.{_≡_, sym, ap, _∙_}
+use mathlib.Core.Logic.{_⊎_}
 use mathlib.Core.Bool.{not, false≢true}
 use mathlib.Core.List.{List}
+use lib.ListN.{length, getD}
 use borrow.Author.Tests.{not-false}
 use Rattle.octets.specs.Parts.{same}
 use Rattle.octets.proofs.PartLaws.{same-eq, same-refl}
 use Rattle.refusals.specs.Table.{None, rowsIn, first, accepted}
 use Rattle.refusals.proofs.TableLaws.{by-test, first-none, none-first}
 use Rattle.refusals.proofs.Denials.{Denies, equal, at-most, below, either, both, testOf, fails, _&_}
-use Rattle.sprout.specs.Hashes.{hasTopBits}
-use Rattle.casefile.specs.Fields.{hasLength}
-use Rattle.statement.specs.Conditions.{bothPublic, aboveMoney, outOfRange, strays, balanced, differs}
-use Rattle.statement.specs.CaseTable.{no1, no4, no5, no7, no9, no10, no11, no12, no13, no14, no15, no16, rangeOf, straysOf, balancedOf, nullifierWrong, addressWrong, tagWrong, rhoWrong, commitmentWrong, witnessTable, caseTable}
-use Rattle.statement.specs.Clauses.{Clauses}
+use Rattle.units.specs.Limits.{maxMoney, treeLeaves}
+use Rattle.units.specs.Pairs.{ForBoth}
+use Rattle.sprout.specs.Hashes.{hasTopBits, addressFrom, nullifierFrom, macFrom, rhoFrom, commitmentFrom}
+use Rattle.casefile.specs.Layout.{caseLength, proofLength}
+use Rattle.casefile.specs.Fields.{hasLength, vpubOldOf, vpubNewOf, anchorOf, nullifierOf, commitmentOf, tagOf, oldKeyOf, oldAddressOf, oldValueOf, oldRhoOf, oldPositionOf, newAddressOf, newValueOf, newRhoOf, newTrapdoorOf, phiOf}
+use Rattle.statement.specs.CaseTable.{bothPublic, aboveMoney, outOfRange, endsElsewhere, balanced, differs, pathEndOf, hSigOf, derivedRefusals, claimRefusals, no1, no4, no5, no7, no9, no10, no11, no12, no13, no14, no15, no16, rangeOf, straysOf, balancedOf, nullifierWrong, addressWrong, tagWrong, rhoWrong, commitmentWrong, witnessTable, caseTable}
 use Rattle.statement.proofs.Order.{case-numbered}
+
+pub record Clauses (c : List ℕ) : Type 0 where
+  -- 1
+  pub whole : length c ≡ caseLength (proofLength c)
+  -- 4
+  pub one-sided : (vpubOldOf c ≡ 0) ⊎ (vpubNewOf c ≡ 0)
+  -- 5
+  pub old-money : vpubOldOf c ≤ maxMoney
+  pub new-money : vpubNewOf c ≤ maxMoney
+  -- 7
+  pub distinct : nullifierOf 1 c ≡ nullifierOf 2 c → ⊥
+  -- 9
+  pub ranges : ForBoth (λ i. (getD (oldKeyOf i c) 0 0 ≤ 15) × (oldPositionOf i c < treeLeaves))
+  pub phi-free : getD (phiOf c) 0 0 ≤ 15
+  -- 10
+  pub paths : ForBoth (λ i. (oldValueOf i c ≡ 0) ⊎ (pathEndOf i c ≡ anchorOf c))
+  -- 11
+  pub balance : vpubOldOf c + oldValueOf 1 c + oldValueOf 2 c ≡ vpubNewOf c + newValueOf 1 c + newValueOf 2 c
+  -- 12
+  pub nullifiers : ForBoth (λ i. nullifierOf i c ≡ nullifierFrom (oldKeyOf i c) (oldRhoOf i c))
+  -- 13
+  pub addresses : ForBoth (λ i. oldAddressOf i c ≡ addressFrom (oldKeyOf i c))
+  -- 14
+  pub tags : ForBoth (λ i. tagOf i c ≡ macFrom i (oldKeyOf i c) (hSigOf c))
+  -- 15
+  pub rhos : ForBoth (λ i. newRhoOf i c ≡ rhoFrom i (phiOf c) (hSigOf c))
+  -- 16
+  pub commitments : ForBoth (λ i. commitmentOf i c ≡ commitmentFrom (newAddressOf i c) (newValueOf i c) (newRhoOf i c) (newTrapdoorOf i c))
 
 -- tests on bytes
 pub alike : {s t : List ℕ} → Denies (not (same s t)) (s ≡ t)
@@ -28,7 +59,7 @@ unlike {s} {t} =
 module _ (c : List ℕ) where
   -- no row applies exactly when each clause holds
   pub none-clauses : None (caseTable c) → Clauses c
-  unfolding testOf rowsIn hasLength bothPublic aboveMoney hasTopBits outOfRange strays balanced differs no1 no4 no5 no7 no9 no10 no11 no12 no13 no14 no15 no16 rangeOf straysOf balancedOf nullifierWrong addressWrong tagWrong rhoWrong commitmentWrong witnessTable caseTable
+  unfolding testOf rowsIn hasLength bothPublic aboveMoney hasTopBits outOfRange endsElsewhere balanced differs no1 no4 no5 no7 no9 no10 no11 no12 no13 no14 no15 no16 rangeOf straysOf balancedOf nullifierWrong addressWrong tagWrong rhoWrong commitmentWrong derivedRefusals claimRefusals witnessTable caseTable
   none-clauses h =
       let no = fails (caseTable c) h in
       record {
@@ -49,7 +80,7 @@ module _ (c : List ℕ) where
       }
 
   pub clauses-none : Clauses c → None (caseTable c)
-  unfolding None rowsIn hasLength bothPublic aboveMoney hasTopBits outOfRange strays balanced differs no1 no4 no5 no7 no9 no10 no11 no12 no13 no14 no15 no16 rangeOf straysOf balancedOf nullifierWrong addressWrong tagWrong rhoWrong commitmentWrong witnessTable caseTable
+  unfolding None rowsIn hasLength bothPublic aboveMoney hasTopBits outOfRange endsElsewhere balanced differs no1 no4 no5 no7 no9 no10 no11 no12 no13 no14 no15 no16 rangeOf straysOf balancedOf nullifierWrong addressWrong tagWrong rhoWrong commitmentWrong derivedRefusals claimRefusals witnessTable caseTable
   clauses-none k =
       equal .1 (k .whole)
       & either equal equal .1 (k .one-sided)

@@ -15,8 +15,7 @@ use Rattle.sha256.specs.Compression.{compressOf}
 use Rattle.sprout.specs.Hashes.{addressTag, nullifierTag, macTag, rhoTag, withTag, hasTopBits, tagged, addressFrom, nullifierFrom, macFrom, rhoFrom}
 use Rattle.casefile.specs.Layout.{description, oldNote, newNote, lengths, total, offset, proofLength, partOf}
 use Rattle.casefile.specs.Fields.{vpubOldOf, vpubNewOf}
-use Rattle.statement.specs.Conditions.{bothPublic, aboveMoney, outOfRange, balanced}
-use Rattle.statement.specs.CaseTable.{no4, no5}
+use Rattle.statement.specs.CaseTable.{bothPublic, aboveMoney, outOfRange, balanced, no4, no5}
 
 -- each test passes
 every : List Bool → Bool

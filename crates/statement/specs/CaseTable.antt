@@ -1,98 +1,128 @@
--- Document 01's table of refusals, as far as it needs no ledger: the rows of each number, over a case's bytes. i is 1 or 2.
+-- Document 01's table of refusals, as far as it needs no ledger: for each number its condition, and its rows over a case's bytes. i is 1 or 2.
 -- Assumes nothing.
-use Prim.Native.Nat.{ℕ}
-use mathlib.Core.Bool.{Bool, not}
+use Prim.Native.Nat.{ℕ, _+_}
+use mathlib.Core.Bool.{Bool, not, _&&_, _||_}
 use mathlib.Core.List.{List, [], _∷_}
+use lib.Dec.{eqb, ltb, leb}
 use Rattle.octets.specs.Parts.{same}
+use Rattle.units.specs.Limits.{maxMoney, treeLeaves}
 use Rattle.refusals.specs.Table.{Row, row, rowsIn, forEach}
 use Rattle.sprout.specs.Hashes.{hasTopBits, addressFrom, nullifierFrom, macFrom, rhoFrom, commitmentFrom, hSigFrom}
+use Rattle.tree.specs.Record.{pathEnd}
 use Rattle.casefile.specs.Fields.{hasLength, vpubOldOf, vpubNewOf, anchorOf, nullifierOf, commitmentOf, seedOf, tagOf, transactionKeyOf, oldKeyOf, oldAddressOf, oldValueOf, oldRhoOf, oldTrapdoorOf, oldPositionOf, oldPathOf, newAddressOf, newValueOf, newRhoOf, newTrapdoorOf, phiOf}
-use Rattle.statement.specs.Conditions.{bothPublic, aboveMoney, outOfRange, strays, balanced, differs}
 
--- the case is not 4,210 bytes long
+-- 1: the case is not 4,210 bytes long
 unfoldable pub no1 : List ℕ → List Row
 no1 c = row (not (hasLength c)) 1 0 ∷ []
 
--- both public values are nonzero
+-- 4: both public values are nonzero
+unfoldable pub bothPublic : ℕ → ℕ → Bool
+bothPublic old new = not (eqb old 0) && not (eqb new 0)
+
 unfoldable pub no4 : List ℕ → List Row
 no4 c = row (bothPublic (vpubOldOf c) (vpubNewOf c)) 4 0 ∷ []
 
--- a public value is above the highest: 1 the old, 2 the new
+-- 5: a public value is above all the money there is; 1 the old, 2 the new
+unfoldable pub aboveMoney : ℕ → Bool
+aboveMoney value = ltb maxMoney value
+
 unfoldable pub no5 : List ℕ → List Row
 no5 c = row (aboveMoney (vpubOldOf c)) 5 1 ∷ row (aboveMoney (vpubNewOf c)) 5 2 ∷ []
 
--- the two nullifiers are equal
+-- 7: the two nullifiers are equal
 unfoldable pub no7 : List ℕ → List Row
 no7 c = row (same (nullifierOf 1 c) (nullifierOf 2 c)) 7 0 ∷ []
 
--- key or position i out of range; then phi's top four bits, at place 3
+-- 9: key i has one of its top four bits, or the tree has no leaf of position i; then phi has one of its top four bits, place 3
+unfoldable pub outOfRange : List ℕ → ℕ → Bool
+outOfRange key position = hasTopBits key || leb treeLeaves position
+
 unfoldable pub rangeOf : List ℕ → ℕ → Bool
 rangeOf c i = outOfRange (oldKeyOf i c) (oldPositionOf i c)
 
 unfoldable pub no9 : List ℕ → List Row
 no9 c = row (rangeOf c 1) 9 1 ∷ row (rangeOf c 2) 9 2 ∷ row (hasTopBits (phiOf c)) 9 3 ∷ []
 
--- old note i has a value, and its path, climbed from its commitment, ends elsewhere than at the anchor
+-- 10: old note i has a value, and its path, climbed from its commitment, ends elsewhere than at the anchor
+unfoldable pub endsElsewhere : ℕ → List ℕ → List ℕ → Bool
+endsElsewhere value end anchor = not (eqb value 0) && not (same end anchor)
+
 unfoldable pub oldCommitmentOf : ℕ → List ℕ → List ℕ
 oldCommitmentOf i c = commitmentFrom (oldAddressOf i c) (oldValueOf i c) (oldRhoOf i c) (oldTrapdoorOf i c)
 
+unfoldable pub pathEndOf : ℕ → List ℕ → List ℕ
+pathEndOf i c = pathEnd (oldCommitmentOf i c) (oldPositionOf i c) (oldPathOf i c)
+
 unfoldable pub straysOf : List ℕ → ℕ → Bool
-straysOf c i = strays (oldValueOf i c) (oldCommitmentOf i c) (oldPositionOf i c) (oldPathOf i c) (anchorOf c)
+straysOf c i = endsElsewhere (oldValueOf i c) (pathEndOf i c) (anchorOf c)
 
 unfoldable pub no10 : List ℕ → List Row
 no10 c = forEach (straysOf c) 10
 
--- what goes in is not what comes out
+-- 11: what goes in is not what comes out, as whole numbers
+unfoldable pub balanced : ℕ → ℕ → ℕ → ℕ → ℕ → ℕ → Bool
+balanced vpubOld old1 old2 vpubNew new1 new2 = eqb (vpubOld + old1 + old2) (vpubNew + new1 + new2)
+
 unfoldable pub balancedOf : List ℕ → Bool
 balancedOf c = balanced (vpubOldOf c) (oldValueOf 1 c) (oldValueOf 2 c) (vpubNewOf c) (newValueOf 1 c) (newValueOf 2 c)
 
 unfoldable pub no11 : List ℕ → List Row
 no11 c = row (not (balancedOf c)) 11 0 ∷ []
 
--- nullifier i is not that of key i and rho i
+-- 12 to 16: what the case claims is not what its notes and keys give
+unfoldable pub differs : List ℕ → List ℕ → Bool
+differs claimed derived = not (same claimed derived)
+
+-- 12: nullifier i is not that of key i and rho i
 unfoldable pub nullifierWrong : List ℕ → ℕ → Bool
 nullifierWrong c i = differs (nullifierOf i c) (nullifierFrom (oldKeyOf i c) (oldRhoOf i c))
 
 unfoldable pub no12 : List ℕ → List Row
 no12 c = forEach (nullifierWrong c) 12
 
--- a_pk i is not the address of key i
+-- 13: a_pk i is not the address of key i
 unfoldable pub addressWrong : List ℕ → ℕ → Bool
 addressWrong c i = differs (oldAddressOf i c) (addressFrom (oldKeyOf i c))
 
 unfoldable pub no13 : List ℕ → List Row
 no13 c = forEach (addressWrong c) 13
 
--- tag i is wrong
+-- 14: tag i is wrong, over hSig
 unfoldable pub hSigOf : List ℕ → List ℕ
 hSigOf c = hSigFrom (seedOf c) (nullifierOf 1 c) (nullifierOf 2 c) (transactionKeyOf c)
 
-unfoldable pub tagWrong : List ℕ → ℕ → Bool
-tagWrong c i = differs (tagOf i c) (macFrom i (oldKeyOf i c) (hSigOf c))
+unfoldable pub tagWrong : List ℕ → List ℕ → ℕ → Bool
+tagWrong hSig c i = differs (tagOf i c) (macFrom i (oldKeyOf i c) hSig)
 
 unfoldable pub no14 : List ℕ → List Row
-no14 c = forEach (tagWrong c) 14
+no14 c = forEach (tagWrong (hSigOf c) c) 14
 
--- new rho i is wrong
-unfoldable pub rhoWrong : List ℕ → ℕ → Bool
-rhoWrong c i = differs (newRhoOf i c) (rhoFrom i (phiOf c) (hSigOf c))
+-- 15: new rho i is wrong, over hSig
+unfoldable pub rhoWrong : List ℕ → List ℕ → ℕ → Bool
+rhoWrong hSig c i = differs (newRhoOf i c) (rhoFrom i (phiOf c) hSig)
 
 unfoldable pub no15 : List ℕ → List Row
-no15 c = forEach (rhoWrong c) 15
+no15 c = forEach (rhoWrong (hSigOf c) c) 15
 
--- commitment i is wrong
+-- 16: commitment i is not that of new note i
 unfoldable pub commitmentWrong : List ℕ → ℕ → Bool
 commitmentWrong c i = differs (commitmentOf i c) (commitmentFrom (newAddressOf i c) (newValueOf i c) (newRhoOf i c) (newTrapdoorOf i c))
 
 unfoldable pub no16 : List ℕ → List Row
 no16 c = forEach (commitmentWrong c) 16
 
--- what the public part is asked, what the witness is asked, and the whole table of the case alone
+-- what the public part is asked, what the witness is asked and its later parts, and the whole table of the case alone
 unfoldable pub publicTable : List ℕ → List (List Row)
 publicTable c = no1 c ∷ no4 c ∷ no5 c ∷ no7 c ∷ []
 
+unfoldable pub derivedRefusals : List ℕ → List (List Row)
+derivedRefusals c = no12 c ∷ no13 c ∷ no14 c ∷ no15 c ∷ no16 c ∷ []
+
+unfoldable pub claimRefusals : List ℕ → List (List Row)
+claimRefusals c = no11 c ∷ derivedRefusals c
+
 unfoldable pub witnessTable : List ℕ → List (List Row)
-witnessTable c = no9 c ∷ no10 c ∷ no11 c ∷ no12 c ∷ no13 c ∷ no14 c ∷ no15 c ∷ no16 c ∷ []
+witnessTable c = no9 c ∷ no10 c ∷ claimRefusals c
 
 unfoldable pub caseTable : List ℕ → List Row
 caseTable c = rowsIn (no1 c ∷ no4 c ∷ no5 c ∷ no7 c ∷ witnessTable c)

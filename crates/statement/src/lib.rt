@@ -5,8 +5,10 @@ ghost use mathlib.Core.Path.{_≡_};
 ghost use Prim.Native.Nat.{_+_, _*_, _^_, _<_};
 ghost use Rattle.units.specs.Pairs.{numberOf};
 ghost use Rattle.refusals.specs.Table.{first, rowsIn};
-ghost use Rattle.statement.specs.Conditions.{differs as differsOf};
-ghost use Rattle.statement.specs.CaseTable.{no1, no4, no5, no7, no9, no10, no11, no12, no13, no14, no15, no16, rangeOf, straysOf, balancedOf, nullifierWrong, addressWrong, tagWrong, rhoWrong, commitmentWrong, hSigOf, oldCommitmentOf, publicTable, witnessTable, caseTable};
+ghost use mathlib.Core.List.{[], _∷_};
+ghost use Rattle.casefile.specs.Fields.{anchorOf, oldValueOf};
+ghost use Rattle.statement.specs.Claims.{claimNumber, claimWrong, pairRefusals};
+ghost use Rattle.statement.specs.CaseTable.{no1, no4, no5, no7, no9, no10, no11, rangeOf, straysOf, balancedOf, nullifierWrong, addressWrong, tagWrong, rhoWrong, commitmentWrong, hSigOf, oldCommitmentOf, publicTable, witnessTable, claimRefusals, derivedRefusals, pathEndOf, endsElsewhere, differs as differsOf};
 use refusals::Answer;
 use units::Amount;
 use units::Which;
@@ -48,6 +50,17 @@ fn public_amounts(case: &[u8]) -> Answer
     Answer::accepted()
 }
 
+// 4 and 5: what the two public values must satisfy.
+pub fn public_values(case: &[u8]) -> Answer
+    ensures { λ r. ⌜ r ≡ first (rowsIn (no4 (now (case .entry)) ∷ no5 (now (case .entry)) ∷ [])) ⌝ }
+{
+    let a4 = one_sided(case);
+    if !a4.is_accepted() {
+        return a4;
+    }
+    public_amounts(case)
+}
+
 // 7
 fn distinct(case: &[u8]) -> Answer
     ensures { λ r. ⌜ r ≡ first (no7 (now (case .entry))) ⌝ }
@@ -72,7 +85,7 @@ fn out_of_range(case: &[u8], i: Which) -> bool
     !casefile::old_position(case, i).is_leaf()
 }
 
-fn ranges(case: &[u8]) -> Answer
+pub fn ranges(case: &[u8]) -> Answer
     ensures { λ r. ⌜ r ≡ first (no9 (now (case .entry))) ⌝ }
 {
     if out_of_range(case, Which::First) {
@@ -106,29 +119,34 @@ fn differ(claimed: &[u8; 32], derived: &[u8; 32]) -> bool
     !octets::same(claimed, derived)
 }
 
+// Whether old note i has a value, and its path was climbed to some end other than the anchor.
+fn ends_elsewhere(case: &[u8], i: Which, end: &[u8; 32]) -> bool
+    ensures { λ r. ⌜ r ≡ endsElsewhere (oldValueOf (numberOf i) (now (case .entry))) (now (end .entry)) (anchorOf (now (case .entry))) ⌝ }
+{
+    if casefile::old_value(case, i).is_zero() {
+        return false;
+    }
+    let anchor = casefile::anchor(case);
+    differ(end, &anchor)
+}
+
+// Where the path of old note i ends, climbed from its commitment.
+fn path_end(case: &[u8], i: Which) -> [u8; 32]
+    ensures { λ r. ⌜ r ≡ pathEndOf (numberOf i) (now (case .entry)) ⌝ }
+{
+    let leaf = old_commitment(case, i);
+    let position = casefile::old_position(case, i);
+    tree::climb(leaf, position, casefile::old_path(case, i))
+}
+
 fn strays(case: &[u8], i: Which) -> bool
     ensures { λ r. ⌜ r ≡ straysOf (now (case .entry)) (numberOf i) ⌝ }
 {
     if casefile::old_value(case, i).is_zero() {
         return false;
     }
-    let leaf = old_commitment(case, i);
-    let position = casefile::old_position(case, i);
-    let end = tree::climb(leaf, position, casefile::old_path(case, i));
-    let anchor = casefile::anchor(case);
-    !octets::same(&end, &anchor)
-}
-
-fn paths(case: &[u8]) -> Answer
-    ensures { λ r. ⌜ r ≡ first (no10 (now (case .entry))) ⌝ }
-{
-    if strays(case, Which::First) {
-        return Answer::refused(10, 1);
-    }
-    if strays(case, Which::Second) {
-        return Answer::refused(10, 2);
-    }
-    Answer::accepted()
+    let end = path_end(case, i);
+    ends_elsewhere(case, i, &end)
 }
 
 // 11. A sum of three amounts can pass what 64 bits hold, so it is kept as two numbers: how many times
@@ -185,18 +203,6 @@ fn nullifier_wrong(case: &[u8], i: Which) -> bool
     differ(&claimed, &derived)
 }
 
-fn nullifiers(case: &[u8]) -> Answer
-    ensures { λ r. ⌜ r ≡ first (no12 (now (case .entry))) ⌝ }
-{
-    if nullifier_wrong(case, Which::First) {
-        return Answer::refused(12, 1);
-    }
-    if nullifier_wrong(case, Which::Second) {
-        return Answer::refused(12, 2);
-    }
-    Answer::accepted()
-}
-
 // 13
 fn address_wrong(case: &[u8], i: Which) -> bool
     ensures { λ r. ⌜ r ≡ addressWrong (now (case .entry)) (numberOf i) ⌝ }
@@ -207,19 +213,7 @@ fn address_wrong(case: &[u8], i: Which) -> bool
     differ(&claimed, &derived)
 }
 
-fn addresses(case: &[u8]) -> Answer
-    ensures { λ r. ⌜ r ≡ first (no13 (now (case .entry))) ⌝ }
-{
-    if address_wrong(case, Which::First) {
-        return Answer::refused(13, 1);
-    }
-    if address_wrong(case, Which::Second) {
-        return Answer::refused(13, 2);
-    }
-    Answer::accepted()
-}
-
-// 14 and 15 share hSig, which is hashed once and handed to both.
+// 14 and 15 share hSig, which is hashed once.
 fn h_sig(case: &[u8]) -> [u8; 32]
     ensures { λ r. ⌜ r ≡ hSigOf (now (case .entry)) ⌝ }
 {
@@ -231,8 +225,7 @@ fn h_sig(case: &[u8]) -> [u8; 32]
 }
 
 fn tag_wrong(case: &[u8], i: Which, h: &[u8; 32]) -> bool
-    requires { ⌜ now h ≡ hSigOf (now case) ⌝ }
-    ensures { λ r. ⌜ r ≡ tagWrong (now (case .entry)) (numberOf i) ⌝ }
+    ensures { λ r. ⌜ r ≡ tagWrong (now (h .entry)) (now (case .entry)) (numberOf i) ⌝ }
 {
     let claimed = casefile::tag(case, i);
     let key = casefile::old_key(case, i);
@@ -240,40 +233,13 @@ fn tag_wrong(case: &[u8], i: Which, h: &[u8; 32]) -> bool
     differ(&claimed, &derived)
 }
 
-fn tags(case: &[u8], h: &[u8; 32]) -> Answer
-    requires { ⌜ now h ≡ hSigOf (now case) ⌝ }
-    ensures { λ r. ⌜ r ≡ first (no14 (now (case .entry))) ⌝ }
-{
-    if tag_wrong(case, Which::First, h) {
-        return Answer::refused(14, 1);
-    }
-    if tag_wrong(case, Which::Second, h) {
-        return Answer::refused(14, 2);
-    }
-    Answer::accepted()
-}
-
 fn rho_wrong(case: &[u8], i: Which, h: &[u8; 32]) -> bool
-    requires { ⌜ now h ≡ hSigOf (now case) ⌝ }
-    ensures { λ r. ⌜ r ≡ rhoWrong (now (case .entry)) (numberOf i) ⌝ }
+    ensures { λ r. ⌜ r ≡ rhoWrong (now (h .entry)) (now (case .entry)) (numberOf i) ⌝ }
 {
     let claimed = casefile::new_rho(case, i);
     let phi = casefile::phi(case);
     let derived = sprout::rho(i, &phi, h);
     differ(&claimed, &derived)
-}
-
-fn rhos(case: &[u8], h: &[u8; 32]) -> Answer
-    requires { ⌜ now h ≡ hSigOf (now case) ⌝ }
-    ensures { λ r. ⌜ r ≡ first (no15 (now (case .entry))) ⌝ }
-{
-    if rho_wrong(case, Which::First, h) {
-        return Answer::refused(15, 1);
-    }
-    if rho_wrong(case, Which::Second, h) {
-        return Answer::refused(15, 2);
-    }
-    Answer::accepted()
 }
 
 // 16
@@ -289,16 +255,100 @@ fn commitment_wrong(case: &[u8], i: Which) -> bool
     differ(&claimed, &derived)
 }
 
-fn commitments(case: &[u8]) -> Answer
-    ensures { λ r. ⌜ r ≡ first (no16 (now (case .entry))) ⌝ }
-{
-    if commitment_wrong(case, Which::First) {
-        return Answer::refused(16, 1);
+// What a case claims of both of a pair, which is asked in one way.
+enum Claim {
+    Path,
+    Nullifier,
+    Address,
+    Tag,
+    Rho,
+    Commitment,
+}
+
+impl Claim {
+    // The refusal where it is wrong.
+    fn number(self) -> u8
+        ensures { λ r. ⌜ r ≡ claimNumber self ⌝ }
+    {
+        match self {
+            Claim::Path => 10,
+            Claim::Nullifier => 12,
+            Claim::Address => 13,
+            Claim::Tag => 14,
+            Claim::Rho => 15,
+            Claim::Commitment => 16,
+        }
     }
-    if commitment_wrong(case, Which::Second) {
-        return Answer::refused(16, 2);
+}
+
+// Tags and new rhos are over h; nothing else reads it.
+fn is_wrong(case: &[u8], claim: Claim, i: Which, h: &[u8; 32]) -> bool
+    ensures { λ r. ⌜ r ≡ claimWrong claim (now (h .entry)) (now (case .entry)) (numberOf i) ⌝ }
+{
+    match claim {
+        Claim::Path => strays(case, i),
+        Claim::Nullifier => nullifier_wrong(case, i),
+        Claim::Address => address_wrong(case, i),
+        Claim::Tag => tag_wrong(case, i, h),
+        Claim::Rho => rho_wrong(case, i, h),
+        Claim::Commitment => commitment_wrong(case, i),
+    }
+}
+
+// The first of the pair is asked first.
+fn pair(case: &[u8], claim: Claim, h: &[u8; 32]) -> Answer
+    ensures { λ r. ⌜ r ≡ first (pairRefusals claim (now (h .entry)) (now (case .entry))) ⌝ }
+{
+    if is_wrong(case, claim, Which::First, h) {
+        return Answer::refused(claim.number(), 1);
+    }
+    if is_wrong(case, claim, Which::Second, h) {
+        return Answer::refused(claim.number(), 2);
     }
     Answer::accepted()
+}
+
+// 10, which is over no hSig.
+fn paths(case: &[u8]) -> Answer
+    ensures { λ r. ⌜ r ≡ first (no10 (now (case .entry))) ⌝ }
+{
+    let none = [0u8; 32];
+    pair(case, Claim::Path, &none)
+}
+
+// 12 to 16: what is claimed of keys, notes and the transaction.
+fn derived(case: &[u8]) -> Answer
+    ensures { λ r. ⌜ r ≡ first (rowsIn (derivedRefusals (now (case .entry)))) ⌝ }
+{
+    let h = h_sig(case);
+    let a12 = pair(case, Claim::Nullifier, &h);
+    if !a12.is_accepted() {
+        return a12;
+    }
+    let a13 = pair(case, Claim::Address, &h);
+    if !a13.is_accepted() {
+        return a13;
+    }
+    let a14 = pair(case, Claim::Tag, &h);
+    if !a14.is_accepted() {
+        return a14;
+    }
+    let a15 = pair(case, Claim::Rho, &h);
+    if !a15.is_accepted() {
+        return a15;
+    }
+    pair(case, Claim::Commitment, &h)
+}
+
+// 11 to 16: the balance, and what is derived.
+pub fn claims(case: &[u8]) -> Answer
+    ensures { λ r. ⌜ r ≡ first (rowsIn (claimRefusals (now (case .entry)))) ⌝ }
+{
+    let a11 = balance(case);
+    if !a11.is_accepted() {
+        return a11;
+    }
+    derived(case)
 }
 
 // 9 to 16: what the notes and keys must satisfy.
@@ -313,28 +363,7 @@ pub fn witness(case: &[u8]) -> Answer
     if !a10.is_accepted() {
         return a10;
     }
-    let a11 = balance(case);
-    if !a11.is_accepted() {
-        return a11;
-    }
-    let a12 = nullifiers(case);
-    if !a12.is_accepted() {
-        return a12;
-    }
-    let a13 = addresses(case);
-    if !a13.is_accepted() {
-        return a13;
-    }
-    let h = h_sig(case);
-    let a14 = tags(case, &h);
-    if !a14.is_accepted() {
-        return a14;
-    }
-    let a15 = rhos(case, &h);
-    if !a15.is_accepted() {
-        return a15;
-    }
-    commitments(case)
+    claims(case)
 }
 
 // 1, 4, 5 and 7: what the public part must satisfy.
@@ -345,24 +374,9 @@ pub fn public_part(case: &[u8]) -> Answer
     if !a1.is_accepted() {
         return a1;
     }
-    let a4 = one_sided(case);
+    let a4 = public_values(case);
     if !a4.is_accepted() {
         return a4;
     }
-    let a5 = public_amounts(case);
-    if !a5.is_accepted() {
-        return a5;
-    }
     distinct(case)
-}
-
-// The answer for the case alone.
-pub fn alone(case: &[u8]) -> Answer
-    ensures { λ r. ⌜ r ≡ first (caseTable (now (case .entry))) ⌝ }
-{
-    let a = public_part(case);
-    if !a.is_accepted() {
-        return a;
-    }
-    witness(case)
 }

@@ -1,42 +1,15 @@
-use mathlib.Core.Path.{sym, _∙_}
-use Rattle.statement.specs.CaseTable.{straysOf, no10}
-use Rattle.refusals.proofs.TableLaws.{each-first, each-second, each-none}
+use Rattle.statement.specs.CaseTable.{no10}
 use borrow.Author.Needs.{needs}
 use Rattle.statement.proofs.paths.Statement.{statement}
 use Rattle.statement.proofs.paths.Tie as tie
 
 returns : tie.Need-returns
 unfolding no10
-returns c =
-    let w = c .before .before in
-    let test = straysOf (w .before .before .args .case .now) in
-    c .refused .ensures ∙ each-first test 10 (sym (w .strays .ensures) ∙ c .before .if1 .taken)
-
-returns-2 : tie.Need-returns-2
-unfolding no10
-returns-2 c =
-    let v = c .before .before in
-    let w = v .before .before in
-    let test = straysOf (w .before .before .args .case .now) in
-    c .refused2 .ensures ∙ each-second test 10 (sym (w .strays .ensures) ∙ v .before .if1 .left) (sym (v .strays2 .ensures) ∙ c .before .if2 .taken)
-
-returns-3 : tie.Need-returns-3
-unfolding no10
-returns-3 c =
-    let v = c .before .before in
-    let w = v .before .before in
-    let test = straysOf (w .before .before .args .case .now) in
-    c .accepted .ensures ∙ each-none test 10 (sym (w .strays .ensures) ∙ v .before .if1 .left) (sym (v .strays2 .ensures) ∙ c .before .if2 .left)
+returns c = c .pair .ensures
 
 pub paths-spec : {M : Type 1} → statement M
 paths-spec =
     tie.close
     (tie.spec
     (λ c κs. search needs)
-    (λ c κs. search needs)
-    returns
-    (λ c κs. search needs)
-    (λ c κs. search needs)
-    returns-2
-    (λ c κs. search needs)
-    returns-3)
+    returns)

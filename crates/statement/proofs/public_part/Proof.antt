@@ -1,7 +1,7 @@
 use mathlib.Core.Path.{_≡_, refl, sym, _∙_}
 use mathlib.Core.List.{[], _∷_}
 use Rattle.refusals.specs.Table.{first, rowsIn, numbered}
-use Rattle.refusals.proofs.TableLaws.{stops, goes-on, last-group}
+use Rattle.refusals.proofs.TableLaws.{stops, goes-on, run-stops, run-goes-on, last-group}
 use Rattle.statement.specs.CaseTable.{no1, no4, no5, no7, publicTable}
 use borrow.Author.Needs.{needs}
 use Rattle.statement.proofs.public_part.Statement.{statement}
@@ -10,29 +10,11 @@ use Rattle.statement.proofs.public_part.Tie as tie
 abbrev S1 : tie.Else1 → tie.Start
 S1 c = c .before .before .before .before
 
-abbrev S2 : tie.Else2 → tie.Start
-S2 c = S1 (c .before .before .before)
-
-abbrev S3 : tie.Else3 → tie.Start
-S3 c = S2 (c .before .before .before)
-
 rest1 : (c : tie.Else1) → let case = S1 c .args .case .now in first (rowsIn (publicTable case)) ≡ first (rowsIn (no4 case ∷ no5 case ∷ no7 case ∷ []))
 unfolding publicTable numbered no1
 rest1 c =
     let case = S1 c .args .case .now in
     goes-on (no1 case) (no4 case ∷ no5 case ∷ no7 case ∷ []) _ _ (c .before .before .length .ensures) (c .before .is-accepted .ensures) refl (c .if1 .left)
-
-rest2 : (c : tie.Else2) → let case = S2 c .args .case .now in first (rowsIn (publicTable case)) ≡ first (rowsIn (no5 case ∷ no7 case ∷ []))
-unfolding publicTable numbered no4
-rest2 c =
-    let case = S2 c .args .case .now in
-    rest1 (c .before .before .before) ∙ goes-on (no4 case) (no5 case ∷ no7 case ∷ []) _ _ (c .before .before .one-sided .ensures) (c .before .is-accepted2 .ensures) refl (c .if2 .left)
-
-rest3 : (c : tie.Else3) → let case = S3 c .args .case .now in first (rowsIn (publicTable case)) ≡ first (rowsIn (no7 case ∷ []))
-unfolding publicTable numbered no5
-rest3 c =
-    let case = S3 c .args .case .now in
-    rest2 (c .before .before .before) ∙ goes-on (no5 case) (no7 case ∷ []) _ _ (c .before .before .public-amounts .ensures) (c .before .is-accepted3 .ensures) refl (c .if3 .left)
 
 returns : tie.Need-returns
 unfolding publicTable
@@ -41,25 +23,21 @@ returns c =
     stops (no1 case) (no4 case ∷ no5 case ∷ no7 case ∷ []) _ _ (c .before .before .length .ensures) (c .before .is-accepted .ensures) (c .if1 .taken)
 
 returns-2 : tie.Need-returns-2
-unfolding publicTable
 returns-2 c =
     let p = c .before .before .before in
     let case = S1 p .args .case .now in
-    stops (no4 case) (no5 case ∷ no7 case ∷ []) _ _ (c .before .before .one-sided .ensures) (c .before .is-accepted2 .ensures) (c .if2 .taken) ∙ sym (rest1 p)
+    run-stops (no4 case ∷ no5 case ∷ []) (no7 case ∷ []) _ _ (c .before .before .public-values .ensures) (c .before .is-accepted2 .ensures) (c .if2 .taken)
+    ∙ sym (rest1 p)
 
 returns-3 : tie.Need-returns-3
-unfolding publicTable
+unfolding rowsIn numbered no4 no5
 returns-3 c =
-    let p = c .before .before .before in
-    let case = S2 p .args .case .now in
-    stops (no5 case) (no7 case ∷ []) _ _ (c .before .before .public-amounts .ensures) (c .before .is-accepted3 .ensures) (c .if3 .taken) ∙ sym (rest2 p)
-
-returns-4 : tie.Need-returns-4
-unfolding publicTable
-returns-4 c =
-    let p = c .before in
-    let case = S3 p .args .case .now in
-    c .distinct .ensures ∙ last-group (no7 case) ∙ sym (rest3 p)
+    let e = c .before in
+    let p = e .before .before .before in
+    let case = S1 p .args .case .now in
+    c .distinct .ensures ∙ last-group (no7 case)
+    ∙ sym (run-goes-on (no4 case ∷ no5 case ∷ []) (no7 case ∷ []) _ _ (e .before .before .public-values .ensures) (e .before .is-accepted2 .ensures) refl (e .if2 .left))
+    ∙ sym (rest1 p)
 
 pub public-part-spec : {M : Type 1} → statement M
 public-part-spec =
@@ -72,7 +50,4 @@ public-part-spec =
     (λ c κs. search needs)
     returns-2
     (λ c κs. search needs)
-    (λ c κs. search needs)
-    returns-3
-    (λ c κs. search needs)
-    returns-4)
+    returns-3)

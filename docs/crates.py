@@ -11,7 +11,7 @@ import os
 import re
 
 ROOT = os.path.dirname(os.path.dirname(os.path.abspath(__file__)))
-WAY = """scanner scanning, scanning bag, bag seal, bag judge, judge statement, judge ledger, statement casefile,
+WAY = """scanner scanning, scanning bag, bag seal, bag judge, judge statement, judge ledgerbytes, ledgerbytes ledger, statement casefile,
     statement sprout, statement tree, ledger tree, tree nodes, nodes sha256, sprout sha256, sprout blake2b,
     scanning text, scanner lines"""
 BOX, TALL, GAP, LANE, STEP, LEFT, TOP = 92, 26, 14, 12, 60, 160, 62

@@ -1,19 +1,18 @@
 -- The day list in bytes is the day list of `books`: what a row is rewritten to, and that all others stay.
 -- Assumes nothing.
 use Prim.Native.Nat.{ℕ, zero, suc, _+_, _*_, _/_, _%_, _^_, _≤_, _<_}
-use mathlib.Core.Path.{_≡_, refl, sym, ap, ap₂, _∙_}
-use mathlib.Core.List.{List, [], _∷_, _++_, append-assoc}
+use mathlib.Core.Path.{_≡_, refl, sym, ap, _∙_}
+use mathlib.Core.List.{List, _++_, append-assoc}
 use native.Mathlib.Decide.{decLe}
 use native.Mathlib.Nat.{lt-of-not-le}
 use native.Mathlib.Omega.{arith}
-use lib.ListN.{length, getD, take, drop, set, length-append, length-drop, take-append-drop, List·getD-append}
+use lib.ListN.{length, take, drop, set, length-drop, take-append-drop, List·getD-append}
 use lib.Seq.{take-add, drop-drop, drop-at, length-take-le}
 use borrow.Author.Tests.{lt-ltb, le-ltb}
 use Rattle.octets.specs.Parts.{field, pasted}
-use Rattle.octets.specs.Numbers.{little, littleBytes}
+use Rattle.octets.specs.Numbers.{littleBytes}
 use Rattle.octets.proofs.NumberLaws.{little-bytes}
 use Rattle.octets.proofs.PartLaws.{field-left, field-all, pasted-is, pasted-length}
-use Rattle.books.specs.declared.DayRow.{DayRow}
 use Rattle.books.specs.DayList.{entered}
 use Rattle.host.specs.Books.{dayRow, dayAnswer, dayAfter, dayRowOf, dayRows, dayList}
 

@@ -1,7 +1,7 @@
 -- A seal and a bag judged for a host. k is the scanner's calibration, b the bag's bytes, s, t and r the ledger's three buffers, o the report's.
 -- Assumes nothing.
 use Prim.Native.Nat.{ℕ}
-use mathlib.Core.Bool.{Bool, cond, _&&_}
+use mathlib.Core.Bool.{cond, _&&_}
 use mathlib.Core.List.{List, [], _∷_, _++_}
 use lib.Ieee.{Float, binary64, toBits}
 use Rattle.octets.specs.Parts.{pasted}

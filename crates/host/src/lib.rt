@@ -5,7 +5,7 @@
 ghost use mathlib.Core.Path.{_≡_};
 ghost use lib.Ieee.{binary64, toBits};
 ghost use Rattle.seal.specs.Judgement.{sealAnswer};
-ghost use Rattle.host.specs.Answers.{codeOf, wrongLength};
+ghost use Rattle.host.specs.Answers.{codeOf};
 ghost use Rattle.host.specs.Ledgers.{openAnswer, openLedger, openRoll, judgeAnswer, judgeLedger, judgeTable, closeAnswer, closeLedger, closeRoll, rootAnswer, rootAfter, hashAnswer, hashAfter};
 ghost use Rattle.host.specs.Bags.{handed, bodyAnswer, pullAfter, ownAnswer, bagAnswer, bagLedger, bagTable, answersOf, reportOf, bagReport};
 ghost use Rattle.host.specs.Books.{tallyIn, tallyBytes, tallyAnswer, tallyAfter, dayRow, dayAnswer, dayAfter};

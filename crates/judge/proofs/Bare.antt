@@ -1,13 +1,11 @@
 -- What is asked of a ledger is asked of its counts: one with the same counts and no node gets the same answer.
 -- Assumes nothing.
 use Prim.Native.Nat.{ℕ, _<_}
-use mathlib.Core.Path.{_≡_, refl, ap, _∙_}
+use mathlib.Core.Path.{_≡_, refl, ap}
 use mathlib.Core.Bool.{true}
 use mathlib.Core.List.{List}
-use native.Mathlib.Omega.{arith}
 use borrow.Author.Tests.{eqb-true, leb-false}
 use lib.ListN.{length}
-use Rattle.refusals.specs.declared.Answer.{Answer}
 use Rattle.refusals.specs.Table.{None, rowsIn, first, numbered, isAccepted}
 use Rattle.refusals.proofs.TableLaws.{first-none}
 use Rattle.ledger.specs.declared.Ledger.{Ledger}

@@ -1,9 +1,9 @@
 -- The judge's table is made of the case's own and the ledger's: its answer is the lower of theirs. And its two halves, before and after the first hash.
 -- Assumes nothing.
 use Prim.Native.Nat.{ℕ}
-use mathlib.Core.Path.{_≡_, refl, sym, ap, ap₂, _∙_}
+use mathlib.Core.Path.{_≡_, refl, ap₂, _∙_}
 use mathlib.Core.Bool.{Bool, true, false, not, _||_}
-use mathlib.Core.List.{List, [], _∷_, _++_}
+use mathlib.Core.List.{List, _++_}
 use lib.Dec.{eqb}
 use Rattle.refusals.specs.Table.{Row, rowsIn, first, numbered, lower}
 use Rattle.refusals.proofs.TwoTables.{neverFalls, those, first-lower}

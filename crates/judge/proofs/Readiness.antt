@@ -1,25 +1,24 @@
 -- A case that passed the half of the table that needs no hash can be entered.
 -- Assumes nothing.
-use Prim.Native.Nat.{ℕ, _+_, _*_, _/_, _≤_, _<_, _^_}
-use mathlib.Core.Path.{_≡_, refl, sym, ap, _∙_}
-use mathlib.Core.Bool.{Bool, true, false, not, _&&_, false≢true, true≢false}
+use Prim.Native.Nat.{ℕ, _+_, _*_, _/_, _≤_}
+use mathlib.Core.Path.{_≡_, sym, ap, _∙_}
+use mathlib.Core.Bool.{Bool, false, not, _&&_}
 use mathlib.Core.List.{List}
 use native.Mathlib.Omega.{arith}
-use borrow.Author.Tests.{eqb-true, eqb-false, ltb-false, not-true, not-false}
+use borrow.Author.Tests.{eqb-true, ltb-false, not-false}
 use lib.Dec.{eqb, ltb}
 use lib.IntN.{natAbs}
 use lib.ListN.{length}
 use Rattle.octets.specs.Parts.{same}
 use Rattle.units.specs.Limits.{maxMoney}
-use Rattle.refusals.specs.Table.{Row, None, rowsIn, first}
+use Rattle.refusals.specs.Table.{None, rowsIn, first}
 use Rattle.refusals.proofs.TableLaws.{by-test, first-none}
-use Rattle.casefile.specs.Fields.{vpubOldOf, vpubNewOf, anchorOf, nullifierOf}
+use Rattle.casefile.specs.Fields.{vpubOldOf, vpubNewOf, nullifierOf}
 use Rattle.statement.specs.CaseTable.{bothPublic, aboveMoney, no1, no4, no5, no7}
 use Rattle.ledger.specs.declared.Ledger.{Ledger}
-use Rattle.ledger.specs.Sorted.{isGap, find}
-use Rattle.ledger.specs.Rows.{byteOrder, Fresh, among}
+use Rattle.ledger.specs.Rows.{among}
 use Rattle.ledger.specs.Ledgers.{mostNullifiers, roomIn, spentRows, damaged, no2, no3, no6, no8, Ready}
-use Rattle.ledger.proofs.Soundness.{Sound, undamaged, among-found, at-most}
+use Rattle.ledger.proofs.Soundness.{undamaged, among-found, at-most}
 use Rattle.judge.specs.Judging.{frontTable}
 use Rattle.judge.proofs.Halves.{front-numbers}
 

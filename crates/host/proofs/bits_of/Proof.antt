@@ -1,4 +1,4 @@
-use mathlib.Core.Path.{refl, sym, ap, subst}
+use mathlib.Core.Path.{sym, ap, subst}
 use lib.Dec.{T}
 use lib.Ieee.{binary64, toBits}
 use lib.Ieee.Compare.{differs-from-itself}

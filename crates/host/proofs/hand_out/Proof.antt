@@ -1,4 +1,4 @@
-use mathlib.Core.Path.{_≡_, sym, ap, _∙_}
+use mathlib.Core.Path.{sym, ap, _∙_}
 use Rattle.seal.specs.declared.Sealed.{Sealed}
 use Rattle.host.specs.Answers.{codeOf}
 use Rattle.host.specs.Bags.{handed}

@@ -1,14 +1,12 @@
 use mathlib.Core.Path.{_≡_, sym, ap, _∙_}
 use mathlib.Core.Bool.{true}
-use mathlib.Core.List.{List}
-use Prim.Native.Nat.{ℕ, _+_, _*_, _<_}
+use Prim.Native.Nat.{_+_, _*_}
 use borrow.Author.Tests.{not-true, not-false}
-use lib.ListN.{length}
 use Rattle.octets.specs.Parts.{pasted}
 use Rattle.refusals.specs.Table.{first, isAccepted}
 use Rattle.tree.specs.Record.{recordRoot}
 use Rattle.ledger.specs.declared.Ledger.{Ledger}
-use Rattle.ledger.specs.Ledgers.{mostAnchors, roomIn, closeTable, closedOf}
+use Rattle.ledger.specs.Ledgers.{closeTable, closedOf}
 use Rattle.ledger.proofs.Endings.{close-refused, close-passed}
 use Rattle.ledgerbytes.specs.Keeping.{ledgerOf, written}
 use Rattle.judge.proofs.Bare.{closing-bare, close-free}

@@ -1,10 +1,9 @@
-use mathlib.Core.Path.{_≡_, refl, sym, ap, _∙_}
-use mathlib.Core.List.{List}
-use Prim.Native.Nat.{ℕ, _+_, _≤_}
+use mathlib.Core.Path.{_≡_, sym, _∙_}
+use Prim.Native.Nat.{_+_, _≤_}
 use native.Mathlib.Omega.{arith}
 use lib.ListN.{length, take, drop, length-drop}
 use lib.Seq.{length-take-le}
-use Rattle.octets.specs.Parts.{field, zeros}
+use Rattle.octets.specs.Parts.{zeros}
 use Rattle.octets.proofs.PartLaws.{field-part, zeros-length}
 use Rattle.octets.proofs.Joining.{start, next, done}
 use borrow.Author.Needs.{needs}

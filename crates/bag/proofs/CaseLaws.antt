@@ -7,26 +7,26 @@ use native.Mathlib.Omega.{arith}
 use lib.ListN.{length, set, replicate, length-append}
 use lib.Seq.{set-at}
 use Rattle.refusals.specs.declared.Answer.{Answer}
-use Rattle.refusals.specs.Table.{accepted}
+use Rattle.refusals.specs.Rules.{accepted, notGiven}
 use Rattle.ledger.specs.declared.Ledger.{Ledger}
 use Rattle.ledger.specs.declared.Answered.{Answered}
-use Rattle.judge.specs.Judging.{tableAfter, judgedOf}
+use Rattle.judge.specs.Judging.{tableAfterCase, judgedOf}
 use Rattle.bag.specs.declared.Scanned.{Scanned}
 use Rattle.bag.specs.Contents.{rowCount, bodyOf, bodiesFrom, casesOf}
-use Rattle.bag.specs.Scanning.{notGiven, Held, held, withCase, judgedAll, judgedFrom, padded, report}
+use Rattle.bag.specs.SealAndCases.{SoFar, soFar, withNext, judgedAll, judgedFrom, sevenAnswers, report}
 
 one-more : (given : List Answer) (a : Answer) → length (given ++ (a ∷ [])) ≡ length given + 1
 one-more given a = length-append given (a ∷ [])
 
 -- one answer more
-padded-next : (given : List Answer) (a : Answer) (n : ℕ) → length given ≡ n → n < 7 → set (padded given) n a ≡ padded (given ++ (a ∷ []))
-unfolding padded
+padded-next : (given : List Answer) (a : Answer) (n : ℕ) → length given ≡ n → n < 7 → set (sevenAnswers given) n a ≡ sevenAnswers (given ++ (a ∷ []))
+unfolding sevenAnswers
 padded-next given a n e h =
     let m = 7 - length (given ++ (a ∷ [])) in
     let s : 7 - length given ≡ suc m = omega (arith, one-more given a) in
     rw (s, set-at given notGiven (replicate m notGiven) a n e) (sym (append-assoc given (a ∷ []) (replicate m notGiven)))
 
-case-row : (r : List ℕ) (h : Held) (k i : ℕ) (b : List ℕ) → judgedAll r h (bodiesFrom (suc k) i b) ≡ judgedAll r (withCase r h (bodyOf i b)) (bodiesFrom k (i + 1) b)
+case-row : (r : List ℕ) (h : SoFar) (k i : ℕ) (b : List ℕ) → judgedAll r h (bodiesFrom (suc k) i b) ≡ judgedAll r (withNext r h (bodyOf i b)) (bodiesFrom k (i + 1) b)
 unfolding judgedAll bodiesFrom
 case-row r h k i b = refl
 
@@ -34,19 +34,19 @@ case-row r h k i b = refl
 pub record Before (b t₀ r : List ℕ) (l₀ : Ledger) (n i : ℕ) (answers : List Answer) (t : List ℕ) (l : Ledger) : Type 0 where
   pub given : List Answer
   pub counted : length given + 1 ≡ i
-  pub shown : answers ≡ padded given
-  pub whole : judgedFrom t₀ r l₀ (casesOf b) ≡ judgedAll r (held given t l) (bodiesFrom (n - i) i b)
+  pub shown : answers ≡ sevenAnswers given
+  pub whole : judgedFrom t₀ r l₀ (casesOf b) ≡ judgedAll r (soFar given t l) (bodiesFrom (n - i) i b)
 
 module _ (b t₀ r : List ℕ) (l₀ : Ledger) (n : ℕ) where
   pub start : (none : Answer) → none ≡ notGiven → n ≡ rowCount b → Before b t₀ r l₀ n 1 (replicate 7 none) t₀ l₀
-  unfolding casesOf padded
+  unfolding casesOf sevenAnswers
   start none p q = record { given = []; counted = refl; shown = rw p; whole = rw q }
 
   -- a case judged
   module _ (i : ℕ) (answers : List Answer) (t : List ℕ) (l : Ledger) where
-    pub turn : i < n → i < 8 → Before b t₀ r l₀ n i answers t l → (c : List ℕ) (j : Answered) (t′ : List ℕ) → c ≡ bodyOf i b → j ≡ judgedOf c t r l → t′ ≡ tableAfter c t r l
+    pub turn : i < n → i < 8 → Before b t₀ r l₀ n i answers t l → (c : List ℕ) (j : Answered) (t′ : List ℕ) → c ≡ bodyOf i b → j ≡ judgedOf c t r l → t′ ≡ tableAfterCase c t r l
         → Before b t₀ r l₀ n (i + 1) (set answers (i - 1) (j .answer)) t′ (j .ledger)
-    unfolding withCase judgedOf
+    unfolding withNext judgedOf
     turn h k g c j t′ p q s =
         let f = g .given ++ (j .answer ∷ []) in
         let e : n - i ≡ suc (n - (i + 1)) = omega arith in
@@ -60,12 +60,12 @@ module _ (b t₀ r : List ℕ) (l₀ : Ledger) (n : ℕ) where
 
     -- all of them judged
     module _ (h : i ≡ n) (g : Before b t₀ r l₀ n i answers t l) where
-      done : judgedFrom t₀ r l₀ (casesOf b) ≡ held (g .given) t l
+      done : judgedFrom t₀ r l₀ (casesOf b) ≡ soFar (g .given) t l
       unfolding judgedAll bodiesFrom
       done = let e : n - i ≡ 0 = omega arith in g .whole ∙ rw e
 
       pub table-left : t ≡ judgedFrom t₀ r l₀ (casesOf b) .table
-      table-left = sym (ap (λ (x : Held). x .table) done)
+      table-left = sym (ap (λ (x : SoFar). x .table) done)
 
       pub reported : (passed : Answer) → passed ≡ accepted → _≡_ {A = Scanned} (record { layout = passed; seal = passed; cases = n - 1; answers = answers; ledger = l }) (report accepted accepted (judgedFrom t₀ r l₀ (casesOf b) .answers) (judgedFrom t₀ r l₀ (casesOf b) .ledger))
       unfolding report

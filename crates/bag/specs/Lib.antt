@@ -1,2 +1,2 @@
 pub mod Contents
-pub mod Scanning
+pub mod SealAndCases

@@ -6,9 +6,9 @@ ghost use mathlib.Core.Bool.{true};
 ghost use Prim.Native.Nat.{_+_, _≤_, _<_};
 ghost use mathlib.Core.List.{[]};
 ghost use lib.ListN.{length};
-ghost use Rattle.refusals.specs.Table.{accepted};
+ghost use Rattle.refusals.specs.Rules.{accepted};
 ghost use Rattle.bag.specs.Contents.{rowCount, rowStart, entryOf, kindAt, inOrder, laidOut, bodyOf, casesOf};
-ghost use Rattle.bag.specs.Scanning.{sealIn, judgedFrom, report, scannedOf, tableAfterScan};
+ghost use Rattle.bag.specs.SealAndCases.{sealIn, judgedFrom, report, scannedOf, tableAfterBag};
 use ledger::Ledger;
 use refusals::Answer;
 use seal::Calibration;
@@ -125,7 +125,7 @@ fn seal_in(bag: &[u8]) -> Read
 fn unjudged(layout: Answer, seal: Answer, ledger: Ledger) -> Scanned
     ensures { λ r. ⌜ r ≡ report layout seal [] ledger ⌝ }
 {
-    let none = Answer::refused(255, 0);
+    let none = Answer::not_given();
     Scanned {
         layout,
         seal,
@@ -142,7 +142,7 @@ fn judge_cases(bag: &[u8], table: &mut [u8], roll: &[u8], start: Ledger) -> Scan
     ensures { λ _. ⌜ now (table .exit) ≡ judgedFrom (now (table .entry)) (now (roll .entry)) start (casesOf (now (bag .entry))) .table ⌝ }
 {
     let n = row_count(bag);
-    let none = Answer::refused(255, 0);
+    let none = Answer::not_given();
     let mut answers = [none; 7];
     let mut ledger = start;
     for i in 1..n {
@@ -172,12 +172,12 @@ pub fn scan(
     ledger: Ledger,
 ) -> Scanned
     ensures { λ r. ⌜ r ≡ scannedOf calibration (now (bag .entry)) (now (table .entry)) (now (roll .entry)) ledger ⌝ }
-    ensures { λ _. ⌜ now (table .exit) ≡ tableAfterScan calibration (now (bag .entry)) (now (table .entry)) (now (roll .entry)) ledger ⌝ }
+    ensures { λ _. ⌜ now (table .exit) ≡ tableAfterBag calibration (now (bag .entry)) (now (table .entry)) (now (roll .entry)) ledger ⌝ }
 {
     let layout = Answer::accepted();
     let read = seal_in(bag);
     match read {
-        Read::Broken => unjudged(Answer::refused(20, 0), Answer::refused(255, 0), ledger),
+        Read::Broken => unjudged(Answer::refused(20, 0), Answer::not_given(), ledger),
         Read::Seal(gate, raw) => {
             let seal = seal::judge(calibration, gate, raw).answer();
             if !seal.is_accepted() {

@@ -13,7 +13,7 @@ use lib.Seq.{take-all}
 use Rattle.books.specs.declared.Tally.{Tally}
 use Rattle.books.specs.declared.Tallied.{Tallied}
 use Rattle.books.specs.Tally.{full, countOf, raised, tallyOf}
-use Rattle.books.specs.History.{many, countsOf, added, empty, after, taken}
+use Rattle.books.specs.History.{many, shiftCounts, added, empty, tallyAfterShift, taken}
 use Rattle.books.proofs.TallyLaws.{Decided, decided, seen-full, has-room}
 
 tally-of : (a b c d e f : ℕ) → a ≡ d → b ≡ e → c ≡ f → _≡_ {A = Tally} (record { seen = a; passed = b; refused = c }) (record { seen = d; passed = e; refused = f })
@@ -25,18 +25,18 @@ added-next t true h = tally-of _ _ _ _ _ _ (omega arith) (omega arith) (omega ar
 added-next t false h = tally-of _ _ _ _ _ _ (omega arith) (omega arith) (omega arith)
 
 -- from any tally: the counts grow by those of the entries that were taken
-pub after-added : (t : Tally) (h : List Bool) → after t h ≡ added t (taken t h)
-unfolding after taken many
+pub after-added : (t : Tally) (h : List Bool) → tallyAfterShift t h ≡ added t (taken t h)
+unfolding tallyAfterShift taken many
 after-added t [] = tally-of _ _ _ _ _ _ (omega arith) (omega arith) (omega arith)
 after-added t (p ∷ h) = go (after-added t h) (after-added (raised t p) h) (decided t p)
   where
-    go : after t h ≡ added t (taken t h) → after (raised t p) h ≡ added (raised t p) (taken (raised t p) h)
-        → Decided t p → after t (p ∷ h) ≡ added t (taken t (p ∷ h))
+    go : tallyAfterShift t h ≡ added t (taken t h) → tallyAfterShift (raised t p) h ≡ added (raised t p) (taken (raised t p) h)
+        → Decided t p → tallyAfterShift t (p ∷ h) ≡ added t (taken t (p ∷ h))
     go stayed grown (inl e) = rw e stayed
     go stayed grown (inr e) = rw e (grown ∙ added-next t p (taken (raised t p) h))
 
 -- each count equals the history's own count
-pub own-counts : (h : List Bool) → after empty h ≡ countsOf (taken empty h)
+pub own-counts : (h : List Bool) → tallyAfterShift empty h ≡ shiftCounts (taken empty h)
 own-counts h = after-added empty h ∙ tally-of _ _ _ _ _ _ (omega arith) (omega arith) (omega arith)
 
 many-sum : (h : List Bool) → length h ≡ many true h + many false h
@@ -45,7 +45,7 @@ many-sum [] = refl
 many-sum (true ∷ h) = omega (arith, many-sum h)
 many-sum (false ∷ h) = omega (arith, many-sum h)
 
-pub seen-sum : (h : List Bool) → after empty h .seen ≡ after empty h .passed + after empty h .refused
+pub seen-sum : (h : List Bool) → tallyAfterShift empty h .seen ≡ tallyAfterShift empty h .passed + tallyAfterShift empty h .refused
 seen-sum h = rw (own-counts h) (many-sum (taken empty h))
 
 -- a tally that grew from an empty one, with k free numbers of seen, takes the next k entries and no more
@@ -75,21 +75,21 @@ taken-next (suc k) t (p ∷ h) e s =
 pub taken-first : (h : List Bool) → taken empty h ≡ take full h
 taken-first h = taken-next full empty h refl refl
 
-pub first-counts : (h : List Bool) → after empty h ≡ countsOf (take full h)
-first-counts h = own-counts h ∙ ap countsOf (taken-first h)
+pub first-counts : (h : List Bool) → tallyAfterShift empty h ≡ shiftCounts (take full h)
+first-counts h = own-counts h ∙ ap shiftCounts (taken-first h)
 
-pub all-counts : (h : List Bool) → length h ≤ full → after empty h ≡ countsOf h
-all-counts h l = first-counts h ∙ ap countsOf (take-all full h l)
+pub all-counts : (h : List Bool) → length h ≤ full → tallyAfterShift empty h ≡ shiftCounts h
+all-counts h l = first-counts h ∙ ap shiftCounts (take-all full h l)
 
 -- and an answer is taken exactly where fewer came before it
-pub taken-while : (h : List Bool) (p : Bool) → tallyOf (after empty h) p .ok ≡ ltb (length h) full
+pub taken-while : (h : List Bool) (p : Bool) → tallyOf (tallyAfterShift empty h) p .ok ≡ ltb (length h) full
 taken-while h p = at (ltb (length h) full) refl
   where
-    seen : after empty h .seen ≡ min full (length h)
+    seen : tallyAfterShift empty h .seen ≡ min full (length h)
     seen = ap (λ (t : Tally). t .seen) (own-counts h) ∙ ap length (taken-first h) ∙ length-take full h
 
-    at : (b : Bool) → ltb (length h) full ≡ b → tallyOf (after empty h) p .ok ≡ ltb (length h) full
+    at : (b : Bool) → ltb (length h) full ≡ b → tallyOf (tallyAfterShift empty h) p .ok ≡ ltb (length h) full
     at true e =
-        let room : after empty h .seen < full = omega (arith, seen, ltb-true (length h) full e) in
-        ap (λ (a : Tallied). a .ok) (has-room (after empty h) p room (count-below (after empty h) (seen-sum h) p room)) ∙ sym e
-    at false e = ap (λ (a : Tallied). a .ok) (seen-full (after empty h) p (omega (arith, seen, ltb-false (length h) full e))) ∙ sym e
+        let room : tallyAfterShift empty h .seen < full = omega (arith, seen, ltb-true (length h) full e) in
+        ap (λ (a : Tallied). a .ok) (has-room (tallyAfterShift empty h) p room (count-below (tallyAfterShift empty h) (seen-sum h) p room)) ∙ sym e
+    at false e = ap (λ (a : Tallied). a .ok) (seen-full (tallyAfterShift empty h) p (omega (arith, seen, ltb-false (length h) full e))) ∙ sym e

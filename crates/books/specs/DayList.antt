@@ -12,5 +12,5 @@ abbrev pub isOn : ℕ → List DayRow → Bool
 isOn i rows = ltb i (length rows)
 
 -- the list after row r was entered at number i
-unfoldable pub entered : ℕ → DayRow → List DayRow → List DayRow
-entered i r rows = cond (isOn i rows) (set rows i r) rows
+unfoldable pub withDayRow : ℕ → DayRow → List DayRow → List DayRow
+withDayRow i r rows = cond (isOn i rows) (set rows i r) rows

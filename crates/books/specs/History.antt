@@ -13,8 +13,8 @@ many b [] = 0
 many b (p ∷ h) = cond (Bool·beq p b) 1 0 + many b h
 
 -- the history's own counts, and a tally with those counts added
-abbrev pub countsOf : List Bool → Tally
-countsOf h = record { seen = length h; passed = many true h; refused = many false h }
+abbrev pub shiftCounts : List Bool → Tally
+shiftCounts h = record { seen = length h; passed = many true h; refused = many false h }
 
 abbrev pub added : Tally → List Bool → Tally
 added t h = record { seen = t .seen + length h; passed = t .passed + many true h; refused = t .refused + many false h }
@@ -23,9 +23,9 @@ abbrev pub empty : Tally
 empty = record { seen = 0; passed = 0; refused = 0 }
 
 -- the tally after a history, one answer after the other
-unfoldable pub after : Tally → List Bool → Tally
-after t [] = t
-after t (p ∷ h) = after (tallyOf t p .tally) h
+unfoldable pub tallyAfterShift : Tally → List Bool → Tally
+tallyAfterShift t [] = t
+tallyAfterShift t (p ∷ h) = tallyAfterShift (tallyOf t p .tally) h
 
 -- the entries that were taken: those to which the tally answered yes
 abbrev pub keptIf : Bool → Bool → List Bool → List Bool

@@ -4,7 +4,7 @@
 ghost use mathlib.Core.Path.{_≡_};
 ghost use Prim.Native.Nat.{_<_};
 ghost use Rattle.books.specs.Tally.{full, countOf, raised, tallyOf};
-ghost use Rattle.books.specs.DayList.{isOn, entered};
+ghost use Rattle.books.specs.DayList.{isOn, withDayRow};
 use units::Row;
 
 // The last number of a count.
@@ -88,7 +88,7 @@ pub struct DayRow {
 
 // Rewrites one row of the day list, and answers whether there is such a row; if not, the list stays.
 pub fn enter(list: &mut [DayRow], at: Row, row: DayRow) -> bool
-    ensures { λ r. ⌜ (r ≡ isOn (at .0) (now (list .entry))) × (now (list .exit) ≡ entered (at .0) row (now (list .entry))) ⌝ }
+    ensures { λ r. ⌜ (r ≡ isOn (at .0) (now (list .entry))) × (now (list .exit) ≡ withDayRow (at .0) row (now (list .entry))) ⌝ }
 {
     let i = at.index();
     if i < list.len() {

@@ -10,7 +10,7 @@ use lib.Seq.{drop-drop}
 use Rattle.octets.specs.Parts.{field}
 use Rattle.octets.specs.Rows.{flat}
 use Rattle.octets.proofs.PartLaws.{field-part, field-present}
-use Rattle.casefile.specs.Layout.{description, oldNote, newNote, lengths, total, offset, caseLength, proofLength, partOf, presentOf, partsFrom, vpubOld, vpubNew, anchor, nullifier, commitment, ephemeralKey, seed, tag, proof, ciphertext, transactionKey, ofOld, ofNew, phi}
+use Rattle.casefile.specs.Layout.{description, oldNoteLengths, newNoteLengths, lengths, total, offset, caseLength, proofLength, partOf, presentOf, partsFrom, vpubOld, vpubNew, anchor, nullifier, commitment, ephemeralKey, seed, tag, proof, ciphertext, transactionKey, ofOld, ofNew, phi}
 
 fills-from : (ns : List ℕ) (at : ℕ) (c : List ℕ) → at + total ns ≡ length c → flat (partsFrom at ns c) ≡ drop at c
 unfolding total flat partsFrom
@@ -30,7 +30,7 @@ part-from (n ∷ ns) at zero c h = ap (λ (j : ℕ). field j n c) (omega arith)
 part-from (n ∷ ns) at (suc k) c h = part-from ns (at + n) k c (omega arith) ∙ ap (λ (j : ℕ). field j (getD ns k 0) c) (add-assoc at n (total (take k ns)))
 
 many : (p : ℕ) → length (lengths p) ≡ 38
-unfolding lengths description oldNote newNote
+unfolding lengths description oldNoteLengths newNoteLengths
 many p = refl
 
 -- and field k is the k-th of them
@@ -43,11 +43,11 @@ part-at k c h =
 -- document 01's offsets, and the length of the whole
 places : map (offset 296) (vpubOld ∷ vpubNew ∷ anchor ∷ nullifier 1 ∷ commitment 1 ∷ ephemeralKey ∷ seed ∷ tag 1 ∷ proof ∷ ciphertext 1 ∷ transactionKey ∷ ofOld 1 0 ∷ ofOld 2 0 ∷ ofNew 1 0 ∷ ofNew 2 0 ∷ phi ∷ [])
     ≡ 0 ∷ 8 ∷ 16 ∷ 48 ∷ 112 ∷ 176 ∷ 208 ∷ 240 ∷ 304 ∷ 600 ∷ 1802 ∷ 1834 ∷ 2902 ∷ 3970 ∷ 4074 ∷ 4178 ∷ []
-unfolding offset total lengths description oldNote newNote
+unfolding offset total lengths description oldNoteLengths newNoteLengths
 places = refl
 
 whole : caseLength 296 ≡ 4210
-unfolding caseLength total lengths description oldNote newNote
+unfolding caseLength total lengths description oldNoteLengths newNoteLengths
 whole = refl
 
 -- a field read with zeros behind the file's end is the same from the bytes that the file has

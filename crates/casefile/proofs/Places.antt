@@ -11,7 +11,7 @@ use Rattle.octets.specs.Parts.{field}
 use Rattle.units.specs.declared.Which.{Which}
 use Rattle.units.specs.declared.Which.the-variants.{First, Second}
 use Rattle.units.specs.Pairs.{numberOf, ofPair}
-use Rattle.casefile.specs.Layout.{description, oldNote, newNote, lengths, total, offset, proofLength, presentOf, ofOld}
+use Rattle.casefile.specs.Layout.{description, oldNoteLengths, newNoteLengths, lengths, total, offset, proofLength, presentOf, ofOld}
 
 -- a field that a reader finds at start, and step bytes further on for the second of the pair
 pub paired : (read : ℕ → List ℕ) (start step n : ℕ) (c : List ℕ) → field start n c ≡ read 1 → field (start + step) n c ≡ read 2
@@ -35,6 +35,6 @@ module _ (c : List ℕ) (at n : ℕ) where
 
 -- the path of an old note
 pub path-part : (c : List ℕ) (i : Which) (at : ℕ) → at ≡ ofPair i 1974 (1974 + 1068) → take 928 (drop at c) ≡ presentOf (ofOld (numberOf i) 6) c
-unfolding description oldNote newNote lengths total offset proofLength presentOf
+unfolding description oldNoteLengths newNoteLengths lengths total offset proofLength presentOf
 path-part c First at e = rw e
 path-part c Second at e = rw e

@@ -10,16 +10,16 @@ unfoldable pub description : ℕ → List ℕ
 description p = 8 ∷ 8 ∷ 32 ∷ 32 ∷ 32 ∷ 32 ∷ 32 ∷ 32 ∷ 32 ∷ 32 ∷ 32 ∷ p ∷ 601 ∷ 601 ∷ []
 
 -- an old note: a_sk, a_pk, value, rho, r, position, path
-unfoldable pub oldNote : List ℕ
-oldNote = 32 ∷ 32 ∷ 8 ∷ 32 ∷ 32 ∷ 4 ∷ 29 * 32 ∷ []
+unfoldable pub oldNoteLengths : List ℕ
+oldNoteLengths = 32 ∷ 32 ∷ 8 ∷ 32 ∷ 32 ∷ 4 ∷ 29 * 32 ∷ []
 
 -- a new note: a_pk, value, rho, r
-unfoldable pub newNote : List ℕ
-newNote = 32 ∷ 8 ∷ 32 ∷ 32 ∷ []
+unfoldable pub newNoteLengths : List ℕ
+newNoteLengths = 32 ∷ 8 ∷ 32 ∷ 32 ∷ []
 
 -- the whole file: description, transaction key, and the witness, which ends with phi
 unfoldable pub lengths : ℕ → List ℕ
-lengths p = description p ++ (32 ∷ []) ++ oldNote ++ oldNote ++ newNote ++ newNote ++ (32 ∷ [])
+lengths p = description p ++ (32 ∷ []) ++ oldNoteLengths ++ oldNoteLengths ++ newNoteLengths ++ newNoteLengths ++ (32 ∷ [])
 
 unfoldable pub total : List ℕ → ℕ
 total [] = 0

@@ -15,17 +15,17 @@ use Rattle.text.proofs.PenLaws.{start, then, text-as}
 use Rattle.books.specs.declared.DayRow.{DayRow}
 use Rattle.books.specs.declared.Tally.{Tally}
 use Rattle.books.specs.declared.Tallied.{Tallied}
-use Rattle.books.specs.DayList.{isOn, entered}
+use Rattle.books.specs.DayList.{isOn, withDayRow}
 use Rattle.books.specs.Tally.{tallyOf}
 use Rattle.day.specs.declared.Entry.{Entry}
-use Rattle.day.specs.Lines.{row, threeLine, rowLine, yesOrNo, enterLine, tallyLine, countLine, isPass, dayLines, lastEntry, entries, bothLines}
+use Rattle.day.specs.Lines.{rowWith, threeLine, dayRowLine, yesOrNo, enterLine, tallyLine, countLine, isPass, dayLines, lastEntry, entries, bothLines}
 
 pub three-as : (word : List ℕ) (a b c : ℕ) → word ++ ((ascii " " ++ decimal a) ++ ((ascii " " ++ decimal b) ++ ((ascii " " ++ decimal c) ++ ascii "\n"))) ≡ threeLine word a b c
 unfolding threeLine
 three-as word a b c = simp append-assoc
 
-pub row-as : (r : DayRow) {s a p : ℕ} → s ≡ r .seal → a ≡ r .answer → p ≡ r .place → threeLine (ascii "row") s a p ≡ rowLine r
-unfolding rowLine
+pub row-as : (r : DayRow) {s a p : ℕ} → s ≡ r .seal → a ≡ r .answer → p ≡ r .place → threeLine (ascii "row") s a p ≡ dayRowLine r
+unfolding dayRowLine
 row-as r h k l = rw (h, k, l)
 
 pub tally-as : (t : Tally) {s p r : ℕ} → s ≡ t .seen → p ≡ t .passed → r ≡ t .refused → threeLine (ascii "tally") s p r ≡ tallyLine t
@@ -61,7 +61,7 @@ pub none-yet : {whole : List ℕ} {es : List Entry} {rows : List DayRow} {t : Ta
 none-yet p h = record { text = []; wrote = start p; rest = h }
 
 pub one-entry : {whole : List ℕ} {es : List Entry} {i : ℕ} {rows rows′ : List DayRow} {t : Tally} {p q r u : Pen} (e : Entry) (ok : Bool) (c : Tallied)
-    → i < length es → e ≡ getD es i lastEntry → ok ≡ isOn (e .at .0) rows → rows′ ≡ entered (e .at .0) (e .row) rows → c ≡ tallyOf t (isPass e)
+    → i < length es → e ≡ getD es i lastEntry → ok ≡ isOn (e .at .0) rows → rows′ ≡ withDayRow (e .at .0) (e .row) rows → c ≡ tallyOf t (isPass e)
     → SoFar whole es i rows t p q → Wrote 31 (enterLine (e .at .0) ok) q r → Wrote 79 (countLine c) r u → SoFar whole es (i + 1) rows′ (c .tally) p u
 unfolding dayLines
 one-entry {es = es} {i = i} {rows = rows} {rows′ = rows′} {t = t} e ok c h k ho hr hc s f g =
@@ -76,7 +76,7 @@ one-entry {es = es} {i = i} {rows = rows} {rows′ = rows′} {t = t} e ok c h k
     }
 
 pub no-more : {whole : List ℕ} {es : List Entry} {i : ℕ} {rows : List DayRow} {t : Tally} {p q r u : Pen} → i ≡ length es → SoFar whole es i rows t p q
-    → Wrote 268 (flatMap rowLine rows) q r → Wrote 69 (tallyLine t) r u → Wrote (110 * i + (268 + 69)) whole p u
+    → Wrote 268 (flatMap dayRowLine rows) q r → Wrote 69 (tallyLine t) r u → Wrote (110 * i + (268 + 69)) whole p u
 unfolding dayLines
 no-more {es = es} {i = i} {rows = rows} {t = t} h s f g =
     let d : drop i es ≡ [] = rw h (drop-length es) in

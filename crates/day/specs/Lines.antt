@@ -10,13 +10,13 @@ use Rattle.text.specs.Decimal.{decimal}
 use Rattle.books.specs.declared.DayRow.{DayRow}
 use Rattle.books.specs.declared.Tally.{Tally}
 use Rattle.books.specs.declared.Tallied.{Tallied}
-use Rattle.books.specs.DayList.{isOn, entered}
+use Rattle.books.specs.DayList.{isOn, withDayRow}
 use Rattle.books.specs.History.{empty}
 use Rattle.books.specs.Tally.{tallyOf}
 use Rattle.day.specs.declared.Entry.{Entry}
 
-abbrev pub row : ℕ → ℕ → ℕ → DayRow
-row seal answer place = record { seal = seal; answer = answer; place = place }
+abbrev pub rowWith : ℕ → ℕ → ℕ → DayRow
+rowWith seal answer place = record { seal = seal; answer = answer; place = place }
 
 abbrev pub tally : ℕ → ℕ → ℕ → Tally
 tally seen passed refused = record { seen = seen; passed = passed; refused = refused }
@@ -25,8 +25,8 @@ tally seen passed refused = record { seen = seen; passed = passed; refused = ref
 unfoldable pub threeLine : List ℕ → ℕ → ℕ → ℕ → List ℕ
 threeLine word a b c = word ++ ascii " " ++ decimal a ++ ascii " " ++ decimal b ++ ascii " " ++ decimal c ++ ascii "\n"
 
-unfoldable pub rowLine : DayRow → List ℕ
-rowLine r = threeLine (ascii "row") (r .seal) (r .answer) (r .place)
+unfoldable pub dayRowLine : DayRow → List ℕ
+dayRowLine r = threeLine (ascii "row") (r .seal) (r .answer) (r .place)
 
 unfoldable pub yesOrNo : Bool → List ℕ
 yesOrNo true = ascii " yes"
@@ -46,14 +46,14 @@ abbrev pub isPass : Entry → Bool
 isPass e = eqb (e .row .answer) 0
 
 unfoldable pub dayLines : List Entry → List DayRow → Tally → List ℕ
-dayLines [] rows t = flatMap rowLine rows ++ tallyLine t
+dayLines [] rows t = flatMap dayRowLine rows ++ tallyLine t
 dayLines (e ∷ es) rows t =
     enterLine (e .at .0) (isOn (e .at .0) rows) ++ countLine (tallyOf t (isPass e))
-    ++ dayLines es (entered (e .at .0) (e .row) rows) (tallyOf t (isPass e) .tally)
+    ++ dayLines es (withDayRow (e .at .0) (e .row) rows) (tallyOf t (isPass e) .tally)
 
 -- the day's seven answers: in order, on a row that is used, past the end, and past every end
 abbrev pub entry : ℕ → ℕ → ℕ → ℕ → Entry
-entry at seal answer place = record { at = record { 0 = at }; row = row seal answer place }
+entry at seal answer place = record { at = record { 0 = at }; rowWith = rowWith seal answer place }
 
 abbrev pub lastEntry : Entry
 lastEntry = entry 2 4294967295 255 255
@@ -64,7 +64,7 @@ entries =
 
 -- on four rows with nothing in them, and an empty tally
 unfoldable pub wholeDay : List ℕ
-wholeDay = dayLines entries (replicate 4 (row 0 0 0)) empty
+wholeDay = dayLines entries (replicate 4 (rowWith 0 0 0)) empty
 
 -- A PASS AND THEN A REFUSAL, from a tally of any counts: counted in place, and counted by value
 unfoldable pub bothLines : Tally → List ℕ

@@ -9,7 +9,7 @@ ghost use lib.ListN.{length, getD};
 ghost use Rattle.text.specs.Pen.{pen, Wrote, Rendered};
 ghost use Rattle.books.specs.History.{empty as emptyTally};
 ghost use Rattle.books.specs.Tally.{tallyOf};
-ghost use Rattle.day.specs.Lines.{row as rowOf, tally as tallyWith, threeLine, rowLine, yesOrNo, enterLine, tallyLine, countLine, entry, lastEntry, entries, wholeDay, bothLines, fromLines, fullLines, allLines};
+ghost use Rattle.day.specs.Lines.{rowWith as rowOf, tally as tallyWith, threeLine, dayRowLine, yesOrNo, enterLine, tallyLine, countLine, entry, lastEntry, entries, wholeDay, bothLines, fromLines, fullLines, allLines};
 ghost use Rattle.day.specs.Page.{pageOf};
 use books::DayRow;
 use books::Tallied;
@@ -106,7 +106,7 @@ fn put_three(out: &mut [u8], at: usize, word: &[u8], a: u64, b: u64, c: u64) -> 
 }
 
 fn put_row(out: &mut [u8], at: usize, seal: u32, answer: u8, place: u8) -> usize
-    ensures { λ r. ⌜ Wrote 67 (rowLine (rowOf seal answer place)) (pen (now (out .entry)) at) (pen (now (out .exit)) r) ⌝ }
+    ensures { λ r. ⌜ Wrote 67 (dayRowLine (rowOf seal answer place)) (pen (now (out .entry)) at) (pen (now (out .exit)) r) ⌝ }
 {
     put_three(out, at, b"row", wide(seal), wide8(answer), wide8(place))
 }
@@ -150,7 +150,7 @@ fn put_counted(out: &mut [u8], at: usize, c: Tallied) -> usize
 }
 
 fn put_list(out: &mut [u8], at: usize, rows: [DayRow; 4]) -> usize
-    ensures { λ r. ⌜ Wrote 268 (flatMap rowLine rows) (pen (now (out .entry)) at) (pen (now (out .exit)) r) ⌝ }
+    ensures { λ r. ⌜ Wrote 268 (flatMap dayRowLine rows) (pen (now (out .entry)) at) (pen (now (out .exit)) r) ⌝ }
 {
     let mut next = at;
     for i in 0..4 {

@@ -15,7 +15,7 @@ use Rattle.ledger.proofs.ByteOrder.{byte-total}
 use Rattle.ledger.proofs.Members.{member-insert, insert-member}
 use Rattle.ledger.proofs.Soundness.{within}
 use Rattle.ledger.proofs.TableLaws.{entered-drop}
-use Rattle.demands.specs.Histories.{Held, judged, after, answerOn, nullifiersOf, AfterOne}
+use Rattle.demands.specs.Histories.{Held, judged, heldAfter, answerOn, nullifiersOf, AfterOne}
 use Rattle.demands.proofs.OneCase.{nullifier-long, ready-before, table-is, ledger-is, length-then, rows-then, sound-then}
 
 -- rows with a case's two nullifiers put in have those two for members, beside their own
@@ -53,8 +53,8 @@ module _ (c : List ℕ) (rows : List (List ℕ)) where
       go (inr n) = two (List·Memᴰ·cases-cons n)
 
 -- THE THEOREM
-pub after-one : (c : List ℕ) (b : Held) → answerOn c b .number ≡ 0 → AfterOne c b (after (judged c) b)
-unfolding after enteredOf
+pub after-one : (c : List ℕ) (b : Held) → answerOn c b .number ≡ 0 → AfterOne c b (heldAfter (judged c) b)
+unfolding heldAfter enteredOf
 after-one c b h =
     let t = b .table in
     let r = b .roll in

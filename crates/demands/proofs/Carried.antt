@@ -8,7 +8,7 @@ use Rattle.casefile.specs.Agreement.{AgreeButCarried, isChecked, isCarried}
 use Rattle.casefile.specs.Fields.{vpubOldOf, vpubNewOf, anchorOf, nullifierOf, commitmentOf}
 use Rattle.statement.proofs.Carried.{carried-table}
 use Rattle.ledger.specs.declared.Ledger.{Ledger}
-use Rattle.judge.specs.Judging.{answerOf, ledgerAfter, tableAfter}
+use Rattle.judge.specs.Judging.{answerOf, ledgerAfterCase, tableAfterCase}
 use Rattle.judge.proofs.Halves.{answer-lower}
 
 module _ (c d t r : List ℕ) (l : Ledger) (agree : AgreeButCarried c d) where
@@ -33,10 +33,10 @@ module _ (c d t r : List ℕ) (l : Ledger) (agree : AgreeButCarried c d) where
       answer-lower c t r l
       ∙ rw (carried-table c d agree, same-anchor, same-nullifier .0, same-nullifier .1) (sym (answer-lower d t r l))
 
-  pub same-ledger : ledgerAfter c t r l ≡ ledgerAfter d t r l
-  unfolding ledgerAfter
+  pub same-ledger : ledgerAfterCase c t r l ≡ ledgerAfterCase d t r l
+  unfolding ledgerAfterCase
   same-ledger = rw (same-answer, same-commitment .0, same-commitment .1, same-values .0, same-values .1)
 
-  pub same-table : tableAfter c t r l ≡ tableAfter d t r l
-  unfolding tableAfter
+  pub same-table : tableAfterCase c t r l ≡ tableAfterCase d t r l
+  unfolding tableAfterCase
   same-table = rw (same-answer, same-nullifier .0, same-nullifier .1)

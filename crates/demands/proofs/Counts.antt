@@ -5,10 +5,10 @@ use mathlib.Core.Path.{_≡_, _∙_}
 use mathlib.Core.List.{List, [], _∷_}
 use native.Mathlib.Omega.{arith}
 use lib.ListN.{length, length-append}
-use Rattle.refusals.specs.Table.{first}
+use Rattle.refusals.specs.Rules.{first}
 use Rattle.nodes.specs.CommitmentTree.{treeRoot}
-use Rattle.ledger.specs.Ledgers.{openTable}
-use Rattle.demands.specs.Histories.{Call, opened, afterAll, commitmentsOf, Past, freshPast, withCase, withBlock, Leads, no-call, case-taken, case-not-taken, block-closed, block-not-closed, casesTaken, blocksClosed, Shows, Counts}
+use Rattle.ledger.specs.Ledgers.{openRefusals}
+use Rattle.demands.specs.Histories.{Call, heldAtOpening, heldAfterAll, commitmentsOf, Past, freshPast, withCase, withBlock, Leads, no-call, case-taken, case-not-taken, block-closed, block-not-closed, casesTaken, blocksClosed, Shows, CountsAfter}
 use Rattle.demands.proofs.History.{history}
 
 module _ (tableLength rollLength : ℕ) where
@@ -33,12 +33,12 @@ module _ (tableLength rollLength : ℕ) where
   roots-raised (block-not-closed why h) = roots-raised h
 
 -- THE THEOREM
-pub counts : (calls : List Call) (t r : List ℕ) → first (openTable r) .number ≡ 0 → (q : Past) (h : Leads (length t) (length r) freshPast calls q)
-    → Counts (afterAll calls (opened t r)) (casesTaken (length t) (length r) h) (blocksClosed (length t) (length r) h)
+pub counts : (calls : List Call) (t r : List ℕ) → first (openRefusals r) .number ≡ 0 → (q : Past) (h : Leads (length t) (length r) freshPast calls q)
+    → CountsAfter (heldAfterAll calls (heldAtOpening t r)) (casesTaken (length t) (length r) h) (blocksClosed (length t) (length r) h)
 unfolding freshPast
 counts calls t r o q h =
     let k = history calls t r o in
-    let s : Shows (afterAll calls (opened t r)) q = rw (k .only q h) (k .shows) in
+    let s : Shows (heldAfterAll calls (heldAtOpening t r)) q = rw (k .only q h) (k .shows) in
     let leaves = leaves-raised (length t) (length r) h in
     let roots = roots-raised (length t) (length r) h in
     record { nullifiers = s .spent-count ∙ omega arith; leaves = s .leaf-count ∙ omega arith; anchors = s .anchor-count ∙ omega arith }

@@ -11,22 +11,22 @@ use lib.Dec.{eqb}
 use lib.ListN.{length}
 use Rattle.octets.specs.Parts.{same}
 use Rattle.octets.proofs.PartLaws.{same-eq, same-refl}
-use Rattle.refusals.specs.Table.{rowsIn, first, numbered}
+use Rattle.refusals.specs.Rules.{rulesIn, first, numbered}
 use Rattle.refusals.specs.Sentences.{AnswersBy, placesOf, OneOf}
 use Rattle.refusals.proofs.SentenceLaws.{Tells, tells-equal, tells-below, tells-at-most, tells-above, tells-not, tells-both, tells-either, Agree, done, _&_, answers-by}
 use Rattle.sprout.specs.Hashes.{hasTopBits}
-use Rattle.casefile.specs.Layout.{description, oldNote, newNote, lengths, total, caseLength, proofLength}
+use Rattle.casefile.specs.Layout.{description, oldNoteLengths, newNoteLengths, lengths, total, caseLength, proofLength}
 use Rattle.casefile.specs.Fields.{hasLength}
-use Rattle.statement.specs.CaseTable.{bothPublic, aboveMoney, outOfRange, endsElsewhere, balanced, differs, pathEndOf, no1, no4, no5, no7, no9, no10, no11, no12, no13, no14, no15, no16, rangeOf, straysOf, balancedOf, nullifierWrong, addressWrong, tagWrong, rhoWrong, commitmentWrong, oldCommitmentOf, hSigOf}
+use Rattle.statement.specs.CaseRefusals.{bothPublic, aboveMoney, outOfRange, endsElsewhere, balanced, differs, pathEndOf, no1, no4, no5, no7, no9, no10, no11, no12, no13, no14, no15, no16, rangeOf, straysOf, balancedOf, nullifierWrong, addressWrong, tagWrong, rhoWrong, commitmentWrong, oldCommitmentOf, hSigOf}
 use Rattle.ledger.specs.declared.Ledger.{Ledger}
 use Rattle.ledger.specs.declared.Order.{Order}
 use Rattle.ledger.specs.declared.Order.the-variants.{Less, Equal, Greater}
 use Rattle.ledger.specs.Sorted.{rising, isLess}
 use Rattle.ledger.specs.Rows.{byteOrder, among}
-use Rattle.ledger.specs.Ledgers.{mostAnchors, roomIn, spentRows, damage, damaged, some, no2, no3, no6, no8, closeTable, closedOf, rollAfterClose, openTable, startOf, openedOf, rollAfterOpen}
+use Rattle.ledger.specs.Ledgers.{mostAnchors, roomIn, spentRows, damage, damaged, some, no2, no3, no6, no8, closeRefusals, closedOf, rollAfterClose, openRefusals, emptyLedger, openedOf, rollAfterOpen}
 use Rattle.ledger.proofs.Soundness.{among-member, member-among}
 use Rattle.ledger.proofs.Endings.{close-refused, open-refused}
-use Rattle.judge.specs.Judging.{judgeTable, answerOf, ledgerAfter, tableAfter}
+use Rattle.judge.specs.Judging.{judgeRefusals, answerOf, ledgerAfterCase, tableAfterCase}
 use Rattle.judge.proofs.Halves.{numbers}
 use Rattle.judge.proofs.Outcomes.{refused-ledger, refused-table}
 use Rattle.demands.specs.Refusals.{Rises, Damaged, caseSentences, allPlaces, closeSentences, openSentences}
@@ -64,8 +64,8 @@ damage-told t r l =
 -- for any bytes c, any table t, any roll r and any ledger value l
 module _ (c t r : List ℕ) (l : Ledger) where
   -- A CASE: row by row of the judge's table
-  rows-told : Agree (judgeTable c t r l) (caseSentences c t r l)
-  unfolding judgeTable rowsIn caseSentences no1 no2 no3 no4 no5 no6 no7 no8 no9 no10 no11 no12 no13 no14 no15 no16 hasLength caseLength proofLength lengths description oldNote newNote total bothPublic aboveMoney hasTopBits outOfRange endsElsewhere balanced differs pathEndOf rangeOf straysOf balancedOf nullifierWrong addressWrong tagWrong rhoWrong commitmentWrong oldCommitmentOf hSigOf
+  rows-told : Agree (judgeRefusals c t r l) (caseSentences c t r l)
+  unfolding judgeRefusals rulesIn caseSentences no1 no2 no3 no4 no5 no6 no7 no8 no9 no10 no11 no12 no13 no14 no15 no16 hasLength caseLength proofLength lengths description oldNoteLengths newNoteLengths total bothPublic aboveMoney hasTopBits outOfRange endsElsewhere balanced differs pathEndOf rangeOf straysOf balancedOf nullifierWrong addressWrong tagWrong rhoWrong commitmentWrong oldCommitmentOf hSigOf
   rows-told =
       tells-not tells-equal
       & damage-told t r l
@@ -105,21 +105,21 @@ module _ (c t r : List ℕ) (l : Ledger) where
   one-place = refl
 
   -- a refusal leaves the counts, the record, the pool and every byte of the table; the roll is lent to the judge for reading alone
-  pub case-leaves : (answerOf c t r l .number ≡ 0 → ⊥) → (ledgerAfter c t r l ≡ l) × (tableAfter c t r l ≡ t)
+  pub case-leaves : (answerOf c t r l .number ≡ 0 → ⊥) → (ledgerAfterCase c t r l ≡ l) × (tableAfterCase c t r l ≡ t)
   case-leaves h =
       let no = ne-eqb (answerOf c t r l .number) 0 h in
       (refused-ledger c t r l no, refused-table c t r l no)
 
 -- CLOSING A BLOCK
 module _ (t r : List ℕ) (l : Ledger) where
-  pub close-answered : AnswersBy (closeSentences t r l) (first (closeTable t r l))
-  unfolding closeTable rowsIn closeSentences no2 numbered
+  pub close-answered : AnswersBy (closeSentences t r l) (first (closeRefusals t r l))
+  unfolding closeRefusals rulesIn closeSentences no2 numbered
   close-answered = answers-by refl (damage-told t r l & tells-at-most & done)
 
   -- the table is lent for reading alone
-  pub close-leaves : (first (closeTable t r l) .number ≡ 0 → ⊥) → (closedOf t r l ≡ l) × (rollAfterClose t r l ≡ r)
+  pub close-leaves : (first (closeRefusals t r l) .number ≡ 0 → ⊥) → (closedOf t r l ≡ l) × (rollAfterClose t r l ≡ r)
   close-leaves h =
-      let e = close-refused t r l (ne-eqb (first (closeTable t r l) .number) 0 h) in
+      let e = close-refused t r l (ne-eqb (first (closeRefusals t r l) .number) 0 h) in
       (sym (e .0), sym (e .1))
 
 -- OPENING
@@ -128,12 +128,12 @@ module _ (r : List ℕ) where
   unfolding roomIn
   no-row = (λ h. let e = eqb-true (roomIn mostAnchors (length r)) 0 h in omega arith, λ h. eq-eqb (roomIn mostAnchors (length r)) 0 (omega arith))
 
-  pub open-answered : AnswersBy (openSentences r) (first (openTable r))
-  unfolding openTable openSentences numbered
+  pub open-answered : AnswersBy (openSentences r) (first (openRefusals r))
+  unfolding openRefusals openSentences numbered
   open-answered = answers-by refl (no-row & done)
 
   -- no byte of the roll changes, the table is not lent at all, and what is handed back is all zero
-  pub open-leaves : (first (openTable r) .number ≡ 0 → ⊥) → (openedOf r ≡ startOf 0) × (rollAfterOpen r ≡ r)
+  pub open-leaves : (first (openRefusals r) .number ≡ 0 → ⊥) → (openedOf r ≡ emptyLedger 0) × (rollAfterOpen r ≡ r)
   open-leaves h =
-      let e = open-refused r (ne-eqb (first (openTable r) .number) 0 h) in
+      let e = open-refused r (ne-eqb (first (openRefusals r) .number) 0 h) in
       (sym (e .0), sym (e .1))

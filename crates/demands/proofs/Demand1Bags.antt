@@ -15,20 +15,20 @@ use lib.Ieee.{Float}
 use lib.ListN.{length}
 use Rattle.octets.specs.Parts.{zeros, same}
 use Rattle.octets.proofs.PartLaws.{same-eq, same-refl}
-use Rattle.refusals.specs.Table.{isAccepted, row, first, numbered}
+use Rattle.refusals.specs.Rules.{isAccepted, rule, first, numbered}
 use Rattle.refusals.specs.Sentences.{AnswersBy}
-use Rattle.refusals.proofs.TableLaws.{by-test}
+use Rattle.refusals.proofs.RuleLaws.{by-test}
 use Rattle.refusals.proofs.Denials.{Denies, equal, at-most, both}
 use Rattle.refusals.proofs.SentenceLaws.{Tells, tells-equal, tells-at-most, tells-not, tells-both, tells-either, tells-true, done, _&_, answers-by}
 use Rattle.seal.specs.declared.Calibration.{Calibration}
 use Rattle.seal.specs.declared.Gate.{Gate}
 use Rattle.seal.specs.declared.Gate.the-variants.{None, AtLeast, Between}
-use Rattle.seal.specs.Body.{kind, low, high, raw, floatOf, isZero, gateOf, spoilt, isBroken, readOf}
-use Rattle.seal.specs.Judgement.{pullOf, badLimit, within, judgeOf, sealAnswer, sealTable}
+use Rattle.seal.specs.Body.{kind, low, high, raw, floatOf, isZero, gateOf, unusedLimitSet, isBroken, readOf}
+use Rattle.seal.specs.Pull.{pullOf, badLimit, within, judgeOf, sealAnswer, sealRefusals}
 use Rattle.seal.proofs.PullLaws.{answered}
 use Rattle.ledger.specs.declared.Ledger.{Ledger}
 use Rattle.bag.specs.Contents.{rowCount, rowStart, entryOf, kindAt, inOrder, laidOut, bodyOf}
-use Rattle.bag.specs.Scanning.{sealIn, layoutAnswer, gateAnswer, judgedCases, judgedAll, heldAfter, report, scannedOf, tableAfterScan}
+use Rattle.bag.specs.SealAndCases.{sealIn, layoutAnswer, gateAnswer, judgedCases, judgedAll, allJudged, report, scannedOf, tableAfterBag}
 use Rattle.demands.specs.BagRefusals.{RowsLaidOut, SealLaidOut, LaidOut, bagSentences, BadLimit, Within, sealSentences}
 
 -- k rows from row i on, the first body at index at
@@ -119,16 +119,16 @@ rows-told b =
           empty = λ e. absurd (omega (arith, r .some));
         }
 
--- THE SEAL'S BODY: a limit is spoilt unless it is used or zero
-unspoilt : (k from : ℕ) (limit : List ℕ) → Denies (spoilt k from limit) (k < from → limit ≡ zeros 8)
-unfolding spoilt isZero
-unspoilt k from limit =
+-- THE SEAL'S BODY: a limit is a breach unless it is used or zero
+unused-clear : (k from : ℕ) (limit : List ℕ) → Denies (unusedLimitSet k from limit) (k < from → limit ≡ zeros 8)
+unfolding unusedLimitSet isZero
+unused-clear k from limit =
     (λ h l. same-eq limit (zeros 8) (not-false (same limit (zeros 8)) (rw (lt-ltb k from l) at h)), λ u. by-test (ltb k from) (λ e. rw (e, u (ltb-true k from e), same-refl (zeros 8))) (λ e. rw e))
 
 seal-told : (s : List ℕ) → Denies (isBroken s) (SealLaidOut s)
 unfolding isBroken
 seal-told s =
-    let d = both (both (both equal at-most) (unspoilt (kind s) 1 (low s))) (unspoilt (kind s) 2 (high s)) in
+    let d = both (both (both equal at-most) (unused-clear (kind s) 1 (low s))) (unused-clear (kind s) 2 (high s)) in
     (λ h. let p = d .0 h in record { long = p .0 .0 .0; known = p .0 .0 .1; low-unused = p .0 .1; high-unused = p .1 }, λ o. d .1 (((o .long, o .known), o .low-unused), o .high-unused))
 
 -- THE WHOLE LAYOUT, as one test
@@ -141,7 +141,7 @@ layout-told b =
     let t = tells-both (rows-told b) (λ h. s .0 (not-true (isBroken (bodyOf 0 b)) h), λ o. ap not (s .1 o)) in
     (λ h. let p = t .0 h in record { rows = p .0; seal = p .1 }, λ o. t .1 (o .rows, o .seal))
 
-layout-first : (b : List ℕ) → layoutAnswer (sealIn b) ≡ first (row (not (isLaidOut b)) 20 0 ∷ [])
+layout-first : (b : List ℕ) → layoutAnswer (sealIn b) ≡ first (rule (not (isLaidOut b)) 20 0 ∷ [])
 unfolding sealIn readOf first
 layout-first b =
     by-test (laidOut b)
@@ -167,7 +167,7 @@ within-told (AtLeast x) p = tells-true
 within-told (Between x y) p = tells-both tells-true tells-true
 
 pub seal-answered : (k : Calibration) (g : Gate) (x : Float) → AnswersBy (sealSentences k g x) (sealAnswer (judgeOf k g x))
-unfolding sealTable sealSentences numbered
+unfolding sealRefusals sealSentences numbered
 seal-answered k g x = rw (answered k g x) (answers-by refl (bad-told g & is-false & tells-not (within-told g (pullOf x k)) & done))
 
 none-judged : (k : Calibration) (b : List ℕ) → (layoutAnswer (sealIn b) .number ≡ 0 → ⊥) ⊎ (gateAnswer k (sealIn b) .number ≡ 0 → ⊥) → judgedCases k b ≡ []
@@ -189,8 +189,8 @@ module _ (k : Calibration) (b t r : List ℕ) (l : Ledger) where
 
   -- where layout or seal refuses, no case is judged and nothing changes; the roll is lent for reading alone
   pub bag-leaves : (scannedOf k b t r l .layout .number ≡ 0 → ⊥) ⊎ (scannedOf k b t r l .seal .number ≡ 0 → ⊥)
-      → (scannedOf k b t r l .cases ≡ 0) × ((scannedOf k b t r l .ledger ≡ l) × (tableAfterScan k b t r l ≡ t))
-  unfolding scannedOf report tableAfterScan heldAfter judgedAll
+      → (scannedOf k b t r l .cases ≡ 0) × ((scannedOf k b t r l .ledger ≡ l) × (tableAfterBag k b t r l ≡ t))
+  unfolding scannedOf report tableAfterBag allJudged judgedAll
   bag-leaves h =
       let e = none-judged k b h in
-      (rw e, (rw e, rw (tableAfterScan, e)))
+      (rw e, (rw e, rw (tableAfterBag, e)))

@@ -7,16 +7,16 @@ use mathlib.Core.List.{List, List·Memᴰ}
 use borrow.Author.Tests.{ltb-false, le-ltb, not-false}
 use lib.ListN.{length}
 use Rattle.refusals.specs.declared.Answer.{Answer}
-use Rattle.refusals.specs.Table.{Row, accepted, first, None, rowsIn, numbered, lower}
-use Rattle.refusals.proofs.TableLaws.{by-test, first-none, none-first}
+use Rattle.refusals.specs.Rules.{Rule, accepted, first, None, rulesIn, numbered, lower}
+use Rattle.refusals.proofs.RuleLaws.{by-test, first-none, none-first}
 use Rattle.refusals.proofs.TwoTables.{lower-accepts}
-use Rattle.casefile.specs.Layout.{description, oldNote, newNote, lengths, total, caseLength, proofLength}
+use Rattle.casefile.specs.Layout.{description, oldNoteLengths, newNoteLengths, lengths, total, caseLength, proofLength}
 use Rattle.casefile.specs.Fields.{anchorOf, nullifierOf}
-use Rattle.statement.specs.CaseTable.{oldCommitmentOf, pathEndOf, hSigOf, caseTable}
+use Rattle.statement.specs.CaseRefusals.{oldCommitmentOf, pathEndOf, hSigOf, caseRefusals}
 use Rattle.statement.proofs.Clauses.{Clauses, accepted-clauses, clauses-accepted}
 use Rattle.ledger.specs.declared.Ledger.{Ledger}
 use Rattle.ledger.specs.Rows.{among}
-use Rattle.ledger.specs.Ledgers.{mostNullifiers, roomIn, spentRows, anchorRows, no2, no3, no6, no8, ledgerTable}
+use Rattle.ledger.specs.Ledgers.{mostNullifiers, roomIn, spentRows, anchorRows, no2, no3, no6, no8, ledgerRefusals}
 use Rattle.ledger.proofs.Soundness.{among-member, member-among}
 use Rattle.judge.specs.Judging.{answerOf}
 use Rattle.judge.proofs.Halves.{answer-lower}
@@ -24,11 +24,11 @@ use Rattle.demands.specs.Validity.{Valid}
 
 -- the ledger's own table, and the case's
 module _ (c t r : List ℕ) (l : Ledger) where
-  abbrev ledgers : List Row
-  ledgers = ledgerTable t r l (anchorOf c) (nullifierOf 1 c) (nullifierOf 2 c)
+  abbrev ledgers : List Rule
+  ledgers = ledgerRefusals t r l (anchorOf c) (nullifierOf 1 c) (nullifierOf 2 c)
 
   ledger-numbers : numbered ledgers ≡ true
-  unfolding ledgerTable rowsIn numbered no2 no3 no6 no8
+  unfolding ledgerRefusals rulesIn numbered no2 no3 no6 no8
   ledger-numbers = refl
 
   not-among : (x : List ℕ) (rows : List (List ℕ)) → among x rows ≡ false → List·Memᴰ x rows → ⊥
@@ -39,7 +39,7 @@ module _ (c t r : List ℕ) (l : Ledger) where
 
   -- a valid case passes the ledger's own table
   admits : Valid c t r l → first ledgers ≡ accepted
-  unfolding None ledgerTable rowsIn no2 no3 no6 no8
+  unfolding None ledgerRefusals rulesIn no2 no3 no6 no8
   admits v =
       let u = v .rules .unspent in
       none-first ledgers
@@ -47,7 +47,7 @@ module _ (c t r : List ℕ) (l : Ledger) where
 
   -- the clauses of the case alone are the encoding, the public values, that the nullifiers differ, and the statement
   clauses-of : Valid c t r l → Clauses c
-  unfolding oldCommitmentOf pathEndOf hSigOf caseLength proofLength lengths description oldNote newNote total
+  unfolding oldCommitmentOf pathEndOf hSigOf caseLength proofLength lengths description oldNoteLengths newNoteLengths total
   clauses-of v =
       let e = v .rules .encoding in
       let p = v .rules .public-values in
@@ -71,7 +71,7 @@ module _ (c t r : List ℕ) (l : Ledger) where
 
   -- and with what the ledger's table says of a case that passed, they make it valid
   valid-of : Clauses c → first ledgers .number ≡ 0 → Valid c t r l
-  unfolding oldCommitmentOf pathEndOf hSigOf caseLength proofLength lengths description oldNote newNote total None ledgerTable rowsIn no2 no3 no6 no8
+  unfolding oldCommitmentOf pathEndOf hSigOf caseLength proofLength lengths description oldNoteLengths newNoteLengths total None ledgerRefusals rulesIn no2 no3 no6 no8
   valid-of k h =
       let n = first-none ledgers ledger-numbers h in
       record {
@@ -101,7 +101,7 @@ module _ (c t r : List ℕ) (l : Ledger) where
   -- ACCEPTED EXACTLY WHEN VALID
   pub accepted-valid : answerOf c t r l .number ≡ 0 → Valid c t r l
   accepted-valid h =
-      let both = lower-accepts (first (caseTable c)) (first ledgers) (ap (λ (a : Answer). a .number) (sym (answer-lower c t r l)) ∙ h) in
+      let both = lower-accepts (first (caseRefusals c)) (first ledgers) (ap (λ (a : Answer). a .number) (sym (answer-lower c t r l)) ∙ h) in
       valid-of (accepted-clauses c (both .0)) (both .1)
 
   pub valid-accepted : Valid c t r l → answerOf c t r l ≡ accepted

@@ -15,29 +15,29 @@ use Rattle.octets.specs.Parts.{same}
 use Rattle.octets.specs.Rows.{Long}
 use Rattle.octets.proofs.PartLaws.{same-eq}
 use Rattle.refusals.specs.declared.Answer.{Answer}
-use Rattle.refusals.specs.Table.{Row, answer, accepted, isAccepted, first, rowsIn, lower}
-use Rattle.refusals.proofs.TableLaws.{by-test}
+use Rattle.refusals.specs.Rules.{Rule, answer, accepted, isAccepted, first, rulesIn, lower}
+use Rattle.refusals.proofs.RuleLaws.{by-test}
 use Rattle.refusals.proofs.TwoTables.{lower-accepts}
 use Rattle.casefile.specs.Fields.{hasLength, vpubOldOf, vpubNewOf, anchorOf, nullifierOf, commitmentOf}
-use Rattle.statement.specs.CaseTable.{no1, caseTable}
+use Rattle.statement.specs.CaseRefusals.{no1, caseRefusals}
 use Rattle.statement.proofs.Clauses.{unlike, accepted-clauses, clauses-accepted}
 use Rattle.ledger.specs.declared.Ledger.{Ledger}
-use Rattle.ledger.specs.Rows.{among, entered}
-use Rattle.ledger.specs.Ledgers.{mostNullifiers, roomIn, spentRows, anchorRows, damaged, no2, no3, no6, no8, ledgerTable, enteredOf}
+use Rattle.ledger.specs.Rows.{among, tableWithTwo}
+use Rattle.ledger.specs.Ledgers.{mostNullifiers, roomIn, spentRows, anchorRows, damaged, no2, no3, no6, no8, ledgerRefusals, enteredOf}
 use Rattle.ledger.proofs.Soundness.{sound-undamaged, among-member, member-among, within}
 use Rattle.ledger.proofs.Entering.{same-count, same-anchors, same-pool, one-record}
 use Rattle.ledger.proofs.TableLaws.{either-order}
-use Rattle.judge.specs.Judging.{judgeTable, answerOf, ledgerAfter, tableAfter}
+use Rattle.judge.specs.Judging.{judgeRefusals, answerOf, ledgerAfterCase, tableAfterCase}
 use Rattle.judge.proofs.Halves.{answer-lower}
 use Rattle.judge.proofs.Outcomes.{refused-ledger, refused-table}
-use Rattle.demands.specs.Histories.{Held, after, answerOn, ValidOn}
+use Rattle.demands.specs.Histories.{Held, heldAfter, answerOn, ValidOn}
 use Rattle.demands.specs.Pairs.{ShareNone, IsOneOf, ShareSome, at-1, at-2, RoomForTwo, SameEnd, OrderFree, OneOfTwo}
 use Rattle.demands.proofs.Demand2.{accepted-valid, valid-accepted}
 use Rattle.demands.proofs.OneCase.{sound-before, ready-before, table-is, ledger-is, length-then, sound-then, other-then, own-then, nullifier-long}
 
 -- a file of the wrong length is refused with 1 by any ledger
 wrong-length : (d t r : List ℕ) (l : Ledger) → hasLength d ≡ false → answerOf d t r l ≡ answer 1 0
-unfolding answerOf judgeTable rowsIn first no1
+unfolding answerOf judgeRefusals rulesIn first no1
 wrong-length d t r l h = rw h
 
 -- an accepted case has the right length
@@ -48,10 +48,10 @@ right-length c t r l h =
 -- EACH GETS THE ANSWER IT WOULD GET ALONE: d after c, and d alone
 module _ (c d t r : List ℕ) (l : Ledger) (room : l .nullifiers + 4 ≤ roomIn mostNullifiers (length t)) where
   abbrev t′ : List ℕ
-  t′ = tableAfter c t r l
+  t′ = tableAfterCase c t r l
 
   abbrev l′ : Ledger
-  l′ = ledgerAfter c t r l
+  l′ = ledgerAfterCase c t r l
 
   module _ (h : answerOf c t r l .number ≡ 0) where
     -- what c leaves to be asked of d
@@ -85,8 +85,8 @@ module _ (c d t r : List ℕ) (l : Ledger) (room : l .nullifiers + 4 ≤ roomIn 
         (other-then c t r l h (nullifierOf 1 d) (unlike .1 (n .0 .0)) (unlike .1 (n .1 .0)), other-then c t r l h (nullifierOf 2 d) (unlike .1 (n .0 .1)) (unlike .1 (n .1 .1)))
 
     ledger-same : ShareNone c d → hasLength d ≡ true
-        → ledgerTable t′ r l′ (anchorOf d) (nullifierOf 1 d) (nullifierOf 2 d) ≡ ledgerTable t r l (anchorOf d) (nullifierOf 1 d) (nullifierOf 2 d)
-    unfolding ledgerTable rowsIn no2 no3 no6 no8
+        → ledgerRefusals t′ r l′ (anchorOf d) (nullifierOf 1 d) (nullifierOf 2 d) ≡ ledgerRefusals t r l (anchorOf d) (nullifierOf 1 d) (nullifierOf 2 d)
+    unfolding ledgerRefusals rulesIn no2 no3 no6 no8
     ledger-same none e =
         let u = unshared none e in
         rw (still-sound, was-sound, still-room, had-room, same-roll, u .0, u .1)
@@ -100,26 +100,26 @@ module _ (c d t r : List ℕ) (l : Ledger) (room : l .nullifiers + 4 ≤ roomIn 
       accepted-first : answerOf c t r l .number ≡ 0 → answerOf d t′ r l′ ≡ answerOf d t r l
       accepted-first h =
           by-test (hasLength d)
-          (λ e. answer-lower d t′ r l′ ∙ ap (λ (rows : List Row). lower (first (caseTable d)) (first rows)) (ledger-same h none e) ∙ sym (answer-lower d t r l))
+          (λ e. answer-lower d t′ r l′ ∙ ap (λ (rows : List Rule). lower (first (caseRefusals d)) (first rows)) (ledger-same h none e) ∙ sym (answer-lower d t r l))
           (λ e. wrong-length d t′ r l′ e ∙ sym (wrong-length d t r l e))
 
   -- A NULLIFIER IN COMMON: of two that would each pass, the later one is refused with 8, at its lowest place that was spent
   module _ (h : answerOf c t r l .number ≡ 0) (k : answerOf d t r l .number ≡ 0) where
-    own-passes : first (caseTable d) ≡ answer 0 0
+    own-passes : first (caseRefusals d) ≡ answer 0 0
     own-passes =
         clauses-accepted d
         (accepted-clauses d
-        (lower-accepts (first (caseTable d)) (first (ledgerTable t r l (anchorOf d) (nullifierOf 1 d) (nullifierOf 2 d))) (ap (λ (a : Answer). a .number) (sym (answer-lower d t r l)) ∙ k) .0))
+        (lower-accepts (first (caseRefusals d)) (first (ledgerRefusals t r l (anchorOf d) (nullifierOf 1 d) (nullifierOf 2 d))) (ap (λ (a : Answer). a .number) (sym (answer-lower d t r l)) ∙ k) .0))
 
     anchored : among (anchorOf d) (anchorRows r l′) ≡ true
     anchored = rw (same-roll h) (member-among (anchorOf d) (anchorRows r l) (accepted-valid d t r l k .rules .anchor))
 
     spent-first : among (nullifierOf 1 d) (spentRows t′ l′) ≡ true → answerOf d t′ r l′ ≡ answer 8 1
-    unfolding ledgerTable rowsIn no2 no3 no6 no8 first
+    unfolding ledgerRefusals rulesIn no2 no3 no6 no8 first
     spent-first e = answer-lower d t′ r l′ ∙ rw (own-passes, still-sound h, still-room h, anchored, e)
 
     spent-second : among (nullifierOf 1 d) (spentRows t′ l′) ≡ false → among (nullifierOf 2 d) (spentRows t′ l′) ≡ true → answerOf d t′ r l′ ≡ answer 8 2
-    unfolding ledgerTable rowsIn no2 no3 no6 no8 first
+    unfolding ledgerRefusals rulesIn no2 no3 no6 no8 first
     spent-second e f = answer-lower d t′ r l′ ∙ rw (own-passes, still-sound h, still-room h, anchored, e, f)
 
     -- the nullifier of d at place 1 is one of c's
@@ -143,12 +143,12 @@ module _ (c d t r : List ℕ) (l : Ledger) (room : l .nullifiers + 4 ≤ roomIn 
       second-passes : answerOf d t′ r l′ .number ≡ 0
       second-passes = ap (λ (a : Answer). a .number) (alone none) ∙ k
 
-      table-both : tableAfter d t′ r l′ ≡ entered (l .nullifiers + 2) (entered (l .nullifiers) t (nullifierOf 1 c) (nullifierOf 2 c)) (nullifierOf 1 d) (nullifierOf 2 d)
+      table-both : tableAfterCase d t′ r l′ ≡ tableWithTwo (l .nullifiers + 2) (tableWithTwo (l .nullifiers) t (nullifierOf 1 c) (nullifierOf 2 c)) (nullifierOf 1 d) (nullifierOf 2 d)
       table-both =
           table-is d t′ r l′ second-passes
-          ∙ ap₂ (λ (n : ℕ) (u : List ℕ). entered n u (nullifierOf 1 d) (nullifierOf 2 d)) (count-then h) (table-is c t r l h)
+          ∙ ap₂ (λ (n : ℕ) (u : List ℕ). tableWithTwo n u (nullifierOf 1 d) (nullifierOf 2 d)) (count-then h) (table-is c t r l h)
 
-      ledger-both : ledgerAfter d t′ r l′ ≡ enteredOf (enteredOf l (commitmentOf 1 c) (commitmentOf 2 c) (vpubOldOf c) (vpubNewOf c)) (commitmentOf 1 d) (commitmentOf 2 d) (vpubOldOf d) (vpubNewOf d)
+      ledger-both : ledgerAfterCase d t′ r l′ ≡ enteredOf (enteredOf l (commitmentOf 1 c) (commitmentOf 2 c) (vpubOldOf c) (vpubNewOf c)) (commitmentOf 1 d) (commitmentOf 2 d) (vpubOldOf d) (vpubNewOf d)
       ledger-both =
           ledger-is d t′ r l′ second-passes
           ∙ ap (λ (m : Ledger). enteredOf m (commitmentOf 1 d) (commitmentOf 2 d) (vpubOldOf d) (vpubNewOf d)) (ledger-is c t r l h)
@@ -164,7 +164,7 @@ passes c b v = ap (λ (a : Answer). a .number) (valid-accepted c (b .table) (b .
 
 -- BOTH ORDERS END ALIKE
 same-end : (c d : List ℕ) (b : Held) → RoomForTwo b → ShareNone c d → ValidOn c b → ValidOn d b → SameEnd c d b
-unfolding Long after
+unfolding Long heldAfter
 same-end c d b room none v w =
     let t = b .table in
     let r = b .roll in
@@ -194,7 +194,7 @@ same-end c d b room none v w =
 
 -- THE THEOREM
 pub order-free : (c d : List ℕ) (b : Held) → RoomForTwo b → ShareNone c d → OrderFree c d b
-unfolding after
+unfolding heldAfter
 order-free c d b room none =
     let t = b .table in
     let r = b .roll in
@@ -219,7 +219,7 @@ one-of c x =
     (λ e. by-test (same (nullifierOf 2 c) x) (λ f. inl (inr (same-eq (nullifierOf 2 c) x f))) (λ f. inr (λ s. ⊎-elim (unlike .0 e) (unlike .0 f) s)))
 
 pub shared-refused : (c d : List ℕ) (b : Held) → RoomForTwo b → ValidOn c b → ValidOn d b → ShareSome c d → OneOfTwo c d b
-unfolding after
+unfolding heldAfter
 shared-refused c d b room v w s = go (one-of c (nullifierOf 1 d)) s
   where
     p : answerOn c b ≡ accepted

@@ -14,20 +14,20 @@ use Rattle.octets.specs.Rows.{rowsOf, Long}
 use Rattle.octets.proofs.PartLaws.{pasted-length}
 use Rattle.octets.proofs.RowLaws.{rows-length, long-append}
 use Rattle.refusals.specs.declared.Answer.{Answer}
-use Rattle.refusals.specs.Table.{accepted, first, isAccepted, None, rowsIn}
-use Rattle.refusals.proofs.TableLaws.{by-test, none-first}
+use Rattle.refusals.specs.Rules.{accepted, first, isAccepted, None, rulesIn}
+use Rattle.refusals.proofs.RuleLaws.{by-test, none-first}
 use Rattle.casefile.specs.Fields.{vpubOldOf, vpubNewOf, nullifierOf}
 use Rattle.nodes.specs.CommitmentTree.{treeRoot}
 use Rattle.tree.specs.declared.Tree.{Tree}
 use Rattle.tree.specs.Record.{freshOf, grown, recordRoot}
 use Rattle.tree.proofs.Grown.{record-root, root-long, grown-append}
 use Rattle.ledger.specs.declared.Ledger.{Ledger}
-use Rattle.ledger.specs.Ledgers.{mostNullifiers, mostAnchors, roomIn, spentRows, anchorRows, damaged, no2, closeTable, startOf, openTable}
+use Rattle.ledger.specs.Ledgers.{mostNullifiers, mostAnchors, roomIn, spentRows, anchorRows, damaged, no2, closeRefusals, emptyLedger, openRefusals}
 use Rattle.ledger.proofs.Soundness.{Sound, sound-undamaged, at-most}
 use Rattle.ledger.proofs.Endings.{close-refused, close-passed, close-sound, close-rows, open-roomy, open-passed, open-sound, open-rows}
 use Rattle.judge.proofs.Outcomes.{refused-ledger, refused-table}
 use Rattle.demands.specs.Validity.{JoinSplitRules}
-use Rattle.demands.specs.Histories.{Call, judged, closed, Held, spentIn, anchorsIn, answerOn, ValidOn, after, afterAll, opened, SameMembers, nullifiersOf, commitmentsOf, Past, freshPast, withCase, withBlock, ValidAfter, RoomForCase, RoomForRoot, Leads, no-call, case-taken, case-not-taken, block-closed, block-not-closed, Shows, History, NextCase}
+use Rattle.demands.specs.Histories.{Call, judged, closed, Held, spentIn, anchorsIn, answerOn, ValidOn, heldAfter, heldAfterAll, heldAtOpening, SameMembers, nullifiersOf, commitmentsOf, Past, freshPast, withCase, withBlock, ValidAfter, RoomForCase, RoomForRoot, Leads, no-call, case-taken, case-not-taken, block-closed, block-not-closed, Shows, History, NextCase}
 use Rattle.demands.proofs.Demand2.{accepted-valid, valid-accepted}
 use Rattle.demands.proofs.OneCase.{commitment-long, sound-then}
 use Rattle.demands.proofs.AfterOne.{after-one}
@@ -55,20 +55,20 @@ same-rules c roots′ spent′ e same u =
 
 -- how a closing is answered
 abbrev closingOn : Held → Answer
-closingOn b = first (closeTable (b .table) (b .roll) (b .ledger))
+closingOn b = first (closeRefusals (b .table) (b .roll) (b .ledger))
 
 -- no answer both refuses and accepts
 not-both : (a : Answer) → isAccepted a ≡ false → a ≡ accepted → ⊥
 not-both a h e = true≢false (sym (ap isAccepted e) ∙ h)
 
 -- a refused call leaves all as it was
-untouched-case : (c : List ℕ) (b : Held) → isAccepted (answerOn c b) ≡ false → after (judged c) b ≡ b
-unfolding after
+untouched-case : (c : List ℕ) (b : Held) → isAccepted (answerOn c b) ≡ false → heldAfter (judged c) b ≡ b
+unfolding heldAfter
 untouched-case c b h =
     ap₂ (λ (t : List ℕ) (l : Ledger). record { table = t; roll = b .roll; ledger = l }) (refused-table c (b .table) (b .roll) (b .ledger) h) (refused-ledger c (b .table) (b .roll) (b .ledger) h)
 
-untouched-block : (b : Held) → isAccepted (closingOn b) ≡ false → after closed b ≡ b
-unfolding after
+untouched-block : (b : Held) → isAccepted (closingOn b) ≡ false → heldAfter closed b ≡ b
+unfolding heldAfter
 untouched-block b h =
     let e = close-refused (b .table) (b .roll) (b .ledger) h in
     ap₂ (λ (r : List ℕ) (l : Ledger). record { table = b .table; roll = r; ledger = l }) (sym (e .1)) (sym (e .0))
@@ -138,8 +138,8 @@ module _ (tableLength rollLength : ℕ) where
     accepts-case c v room = valid-accepted c (b .table) (b .roll) (b .ledger) (in-memory c v room)
 
     -- one that was accepted
-    case-kept : (c : List ℕ) → answerOn c b .number ≡ 0 → Kept (after (judged c) b) (withCase c p)
-    unfolding after withCase anchorRows Long
+    case-kept : (c : List ℕ) → answerOn c b .number ≡ 0 → Kept (heldAfter (judged c) b) (withCase c p)
+    unfolding heldAfter withCase anchorRows Long
     case-kept c h =
         let a = after-one c b h in
         let e = k .count in
@@ -156,8 +156,8 @@ module _ (tableLength rollLength : ℕ) where
         }
 
     -- A BLOCK that was closed
-    block-kept : isAccepted (closingOn b) ≡ true → Kept (after closed b) (withBlock p)
-    unfolding after withBlock spentRows
+    block-kept : isAccepted (closingOn b) ≡ true → Kept (heldAfter closed b) (withBlock p)
+    unfolding heldAfter withBlock spentRows
     block-kept h =
         let passed = close-passed (b .table) (b .roll) (b .ledger) h in
         let e = sym (passed .0) in
@@ -177,11 +177,11 @@ module _ (tableLength rollLength : ℕ) where
 
     -- one is closed where the roll has room
     closes : RoomForRoot rollLength p → closingOn b ≡ accepted
-    unfolding None closeTable rowsIn no2
+    unfolding None closeRefusals rulesIn no2
     closes room =
         let n = anchor-count in
         let e = k .roll-length in
-        none-first (closeTable (b .table) (b .roll) (b .ledger))
+        none-first (closeRefusals (b .table) (b .roll) (b .ledger))
         (undamaged-still, (lt-leb (roomIn mostAnchors (length (b .roll))) (b .ledger .anchors) (rw e (omega arith)), tt))
 
   -- and nowhere else: a roll that shows the new root had room for it
@@ -195,16 +195,16 @@ module _ (tableLength rollLength : ℕ) where
   record Reached (calls : List Call) (b : Held) (p : Past) : Type 0 where
     past : Past
     leads : Leads tableLength rollLength p calls past
-    kept : Kept (afterAll calls b) past
+    kept : Kept (heldAfterAll calls b) past
 
   reach : (calls : List Call) (b : Held) (p : Past) → Kept b p → Reached calls b p
-  unfolding afterAll
+  unfolding heldAfterAll
   reach [] b p k = record { past = p; leads = no-call; kept = k }
   reach (judged c ∷ calls) b p k =
       by-test (isAccepted (answerOn c b))
       (λ e.
       let h = eqb-true (answerOn c b .number) 0 e in
-      let next = reach calls (after (judged c) b) (withCase c p) (case-kept b p k c h) in
+      let next = reach calls (heldAfter (judged c) b) (withCase c p) (case-kept b p k c h) in
       let v = case-accepted b p k c h in
       record { past = next .past; leads = case-taken (v .0) (v .1) (next .leads); kept = next .kept })
       (λ e.
@@ -218,8 +218,8 @@ module _ (tableLength rollLength : ℕ) where
       by-test (isAccepted (closingOn b))
       (λ e.
       let kept = block-kept b p k e in
-      let next = reach calls (after closed b) (withBlock p) kept in
-      record { past = next .past; leads = block-closed (had-room (after closed b) p kept) (next .leads); kept = next .kept })
+      let next = reach calls (heldAfter closed b) (withBlock p) kept in
+      record { past = next .past; leads = block-closed (had-room (heldAfter closed b) p kept) (next .leads); kept = next .kept })
       (λ e.
       let next = reach calls b p k in
       record {
@@ -241,10 +241,10 @@ module _ (tableLength rollLength : ℕ) where
   only-one (block-not-closed why h) (block-not-closed why′ h′) = only-one h h′
 
 -- a ledger that was opened
-fresh-kept : (t r : List ℕ) → first (openTable r) .number ≡ 0 → Kept (length t) (length r) (opened t r) freshPast
-unfolding opened freshPast spentRows startOf rowsOf grown Long
+fresh-kept : (t r : List ℕ) → first (openRefusals r) .number ≡ 0 → Kept (length t) (length r) (heldAtOpening t r) freshPast
+unfolding heldAtOpening freshPast spentRows emptyLedger rowsOf grown Long
 fresh-kept t r h =
-    let yes = eq-eqb (first (openTable r) .number) 0 h in
+    let yes = eq-eqb (first (openRefusals r) .number) 0 h in
     let passed = open-passed r yes in
     let e = sym (passed .0) in
     record {
@@ -260,13 +260,13 @@ fresh-kept t r h =
     }
 
 -- which is any roll that has a row
-pub opens : (r : List ℕ) → 32 ≤ length r → first (openTable r) .number ≡ 0
+pub opens : (r : List ℕ) → 32 ≤ length r → first (openRefusals r) .number ≡ 0
 opens r h = ap (λ (a : Answer). a .number) (open-roomy r h)
 
 -- for a table of any bytes and a roll on which a ledger can be opened
-module _ (calls : List Call) (t r : List ℕ) (o : first (openTable r) .number ≡ 0) where
-  reached : Reached (length t) (length r) calls (opened t r) freshPast
-  reached = reach (length t) (length r) calls (opened t r) freshPast (fresh-kept t r o)
+module _ (calls : List Call) (t r : List ℕ) (o : first (openRefusals r) .number ≡ 0) where
+  reached : Reached (length t) (length r) calls (heldAtOpening t r) freshPast
+  reached = reach (length t) (length r) calls (heldAtOpening t r) freshPast (fresh-kept t r o)
 
   -- THE THEOREM
   pub history : History calls t r
@@ -275,17 +275,17 @@ module _ (calls : List Call) (t r : List ℕ) (o : first (openTable r) .number �
         past = reached .past;
         leads = reached .leads;
         only = λ q h. only-one (length t) (length r) h (reached .leads);
-        shows = shown (length t) (length r) (afterAll calls (opened t r)) (reached .past) (reached .kept);
+        shows = shown (length t) (length r) (heldAfterAll calls (heldAtOpening t r)) (reached .past) (reached .kept);
       }
 
   -- THE SECOND DEMAND, AFTER A HISTORY
-  pub accepted-exactly : (q : Past) → Leads (length t) (length r) freshPast calls q → (c : List ℕ) → NextCase (length t) (afterAll calls (opened t r)) q c
+  pub accepted-exactly : (q : Past) → Leads (length t) (length r) freshPast calls q → (c : List ℕ) → NextCase (length t) (heldAfterAll calls (heldAtOpening t r)) q c
   accepted-exactly q h c =
-      let b = afterAll calls (opened t r) in
+      let b = heldAfterAll calls (heldAtOpening t r) in
       let k : Kept (length t) (length r) b q = rw (only-one (length t) (length r) h (reached .leads)) (reached .kept) in
       let zero : answerOn c b ≡ accepted → answerOn c b .number ≡ 0 = λ e. ap (λ (a : Answer). a .number) e in
       record {
         exactly =
             (λ e. case-accepted (length t) (length r) b q k c (zero e), λ v. accepts-case (length t) (length r) b q k c (v .0) (v .1));
-        shows = λ e. shown (length t) (length r) (after (judged c) b) (withCase c q) (case-kept (length t) (length r) b q k c (zero e));
+        shows = λ e. shown (length t) (length r) (heldAfter (judged c) b) (withCase c q) (case-kept (length t) (length r) b q k c (zero e));
       }

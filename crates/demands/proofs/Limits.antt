@@ -15,7 +15,7 @@ use Rattle.octets.proofs.NumberLaws.{little-bytes}
 use Rattle.octets.proofs.PartLaws.{zeros-length}
 use Rattle.units.specs.Limits.{treeLeaves}
 use Rattle.sprout.specs.Hashes.{hasTopBits}
-use Rattle.statement.specs.CaseTable.{aboveMoney, outOfRange}
+use Rattle.statement.specs.CaseRefusals.{aboveMoney, outOfRange}
 use Rattle.ledger.specs.Ledgers.{mostNullifiers, mostAnchors, roomIn}
 use Rattle.bag.specs.Contents.{rowCount, entryOf, inOrder, laidOut}
 use Rattle.books.specs.Tally.{isFull}

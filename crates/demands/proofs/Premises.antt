@@ -12,31 +12,31 @@ use native.Mathlib.Omega.{arith}
 use borrow.Author.Tests.{eq-eqb}
 use lib.ListN.{length}
 use Rattle.refusals.specs.declared.Answer.{Answer}
-use Rattle.refusals.specs.Table.{accepted}
-use Rattle.casefile.specs.Layout.{description, oldNote, newNote, lengths, total, caseLength, proofLength}
+use Rattle.refusals.specs.Rules.{accepted}
+use Rattle.casefile.specs.Layout.{description, oldNoteLengths, newNoteLengths, lengths, total, caseLength, proofLength}
 use Rattle.casefile.specs.Fields.{hasLength, nullifierOf}
 use Rattle.ledger.specs.Ledgers.{mostNullifiers, roomIn}
-use Rattle.demands.specs.Histories.{judged, Held, spentIn, after, answerOn, ValidOn, nullifiersOf, AfterOne}
+use Rattle.demands.specs.Histories.{judged, Held, spentIn, heldAfter, answerOn, ValidOn, nullifiersOf, AfterOne}
 use Rattle.demands.specs.Pairs.{ShareNone, RoomForTwo, HasRoom, NoneSpent}
 use Rattle.demands.proofs.AfterOne.{after-one}
 use Rattle.demands.proofs.Demand2.{accepted-valid}
 
 -- a valid case has the length of one
 is-long : {b : Held} (c : List ℕ) → ValidOn c b → hasLength c ≡ true
-unfolding hasLength caseLength proofLength lengths description oldNote newNote total
+unfolding hasLength caseLength proofLength lengths description oldNoteLengths newNoteLengths total
 is-long c v = eq-eqb (length c) 4210 (v .rules .encoding .whole)
 
 module _ (c : List ℕ) (b : Held) (h : answerOn c b ≡ accepted) where
-  after-c : AfterOne c b (after (judged c) b)
+  after-c : AfterOne c b (heldAfter (judged c) b)
   after-c = after-one c b (ap (λ (a : Answer). a .number) h)
 
-  pub room-exactly : RoomForTwo b ↔ (HasRoom b × HasRoom (after (judged c) b))
+  pub room-exactly : RoomForTwo b ↔ (HasRoom b × HasRoom (heldAfter (judged c) b))
   room-exactly =
       let n = after-c .count in
       let e = ap (roomIn mostNullifiers) (after-c .table-length) in
       (λ l. (λ f. absurd (omega arith), λ f. absurd (omega arith)), λ q. four (decLe (b .ledger .nullifiers + 4) (roomIn mostNullifiers (length (b .table)))) (q .1))
     where
-      four : Dec (b .ledger .nullifiers + 4 ≤ roomIn mostNullifiers (length (b .table))) → HasRoom (after (judged c) b) → RoomForTwo b
+      four : Dec (b .ledger .nullifiers + 4 ≤ roomIn mostNullifiers (length (b .table))) → HasRoom (heldAfter (judged c) b) → RoomForTwo b
       four (yes l) q = l
       four (no l) q =
           let n = after-c .count in
@@ -46,15 +46,15 @@ module _ (c : List ℕ) (b : Held) (h : answerOn c b ≡ accepted) where
   -- d was valid before c
   module _ (d : List ℕ) (v : ValidOn d b) where
     -- a nullifier of c is spent after it, and what was not spent before is spent only if it is one of c's
-    own-spent : (x : List ℕ) → (x ≡ nullifierOf 1 c) ⊎ (x ≡ nullifierOf 2 c) → List·Memᴰ x (spentIn (after (judged c) b))
+    own-spent : (x : List ℕ) → (x ≡ nullifierOf 1 c) ⊎ (x ≡ nullifierOf 2 c) → List·Memᴰ x (spentIn (heldAfter (judged c) b))
     own-spent x (inl e) = after-c .spent x .1 (Memᴰ·append-right (spentIn b) (List·Memᴰ·head e))
     own-spent x (inr e) = after-c .spent x .1 (Memᴰ·append-right (spentIn b) (List·Memᴰ·tail (List·Memᴰ·head e)))
 
-    only-own : (x : List ℕ) → (List·Memᴰ x (spentIn b) → ⊥) → List·Memᴰ x (spentIn (after (judged c) b)) → (x ≡ nullifierOf 1 c) ⊎ (x ≡ nullifierOf 2 c)
+    only-own : (x : List ℕ) → (List·Memᴰ x (spentIn b) → ⊥) → List·Memᴰ x (spentIn (heldAfter (judged c) b)) → (x ≡ nullifierOf 1 c) ⊎ (x ≡ nullifierOf 2 c)
     only-own x n m =
         ⊎-elim (λ (o : List·Memᴰ x (spentIn b)). absurd (n o)) (λ (o : List·Memᴰ x (nullifiersOf c)). ⊎-elim (λ e. inl e) (λ t. inr (List·Memᴰ·eq-of-singleton t)) (List·Memᴰ·cases-cons o)) (List·Memᴰ·append-cases (spentIn b) (after-c .spent x .0 m))
 
-    pub unshared-exactly : ShareNone c d ↔ NoneSpent d (after (judged c) b)
+    pub unshared-exactly : ShareNone c d ↔ NoneSpent d (heldAfter (judged c) b)
     unshared-exactly = (
       λ none. let n = none (is-long c (accepted-valid c (b .table) (b .roll) (b .ledger) (ap (λ (a : Answer). a .number) h))) (is-long d v) in
           (λ m. ⊎-elim (λ e. n .0 .0 (sym e)) (λ e. n .1 .0 (sym e)) (only-own (nullifierOf 1 d) (v .rules .unspent .0) m), λ m. ⊎-elim (λ e. n .0 .1 (sym e)) (λ e. n .1 .1 (sym e)) (only-own (nullifierOf 2 d) (v .rules .unspent .1) m)),

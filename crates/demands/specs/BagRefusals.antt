@@ -15,7 +15,7 @@ use Rattle.seal.specs.declared.Calibration.{Calibration}
 use Rattle.seal.specs.declared.Gate.{Gate}
 use Rattle.seal.specs.declared.Gate.the-variants.{None, AtLeast, Between}
 use Rattle.seal.specs.Body.{kind, low, high}
-use Rattle.seal.specs.Judgement.{pullOf}
+use Rattle.seal.specs.Pull.{pullOf}
 use Rattle.bag.specs.Contents.{rowCount, rowStart, entryOf, bodyOf}
 
 -- THE LAYOUT of the rows: the first is the seal's, the others are cases; the first body starts right after the table of contents, each other one where the

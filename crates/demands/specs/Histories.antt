@@ -9,7 +9,7 @@ use mathlib.Core.List.{List, [], _∷_, _++_, List·Memᴰ}
 use lib.IntN.{ℤ, pos, _+ℤ_, _-ℤ_}
 use lib.ListN.{length, drop}
 use Rattle.refusals.specs.declared.Answer.{Answer}
-use Rattle.refusals.specs.Table.{accepted}
+use Rattle.refusals.specs.Rules.{accepted}
 use Rattle.casefile.specs.Fields.{vpubOldOf, vpubNewOf, nullifierOf, commitmentOf}
 use Rattle.nodes.specs.CommitmentTree.{treeRoot}
 use Rattle.tree.specs.Record.{freshOf, grown, recordRoot}
@@ -17,7 +17,7 @@ use Rattle.ledger.specs.declared.Ledger.{Ledger}
 use Rattle.ledger.specs.Sorted.{rising}
 use Rattle.ledger.specs.Rows.{byteOrder}
 use Rattle.ledger.specs.Ledgers.{mostNullifiers, mostAnchors, roomIn, spentRows, anchorRows, damaged, closedOf, rollAfterClose, openedOf, rollAfterOpen}
-use Rattle.judge.specs.Judging.{answerOf, ledgerAfter, tableAfter}
+use Rattle.judge.specs.Judging.{answerOf, ledgerAfterCase, tableAfterCase}
 use Rattle.demands.specs.Validity.{JoinSplitRules, Valid}
 
 -- THE CALLS: a case judged, by its bytes, or a block closed
@@ -45,27 +45,27 @@ abbrev pub ValidOn : List ℕ → Held → Type 0
 ValidOn c b = Valid c (b .table) (b .roll) (b .ledger)
 
 -- what is held after a call, and after some, in order; the judge does not write to the roll, nor closing to the table
-unfoldable pub after : Call → Held → Held
-after (judged c) b =
+unfoldable pub heldAfter : Call → Held → Held
+heldAfter (judged c) b =
     record {
-      table = tableAfter c (b .table) (b .roll) (b .ledger);
+      table = tableAfterCase c (b .table) (b .roll) (b .ledger);
       roll = b .roll;
-      ledger = ledgerAfter c (b .table) (b .roll) (b .ledger);
+      ledger = ledgerAfterCase c (b .table) (b .roll) (b .ledger);
     }
-after closed b =
+heldAfter closed b =
     record {
       table = b .table;
       roll = rollAfterClose (b .table) (b .roll) (b .ledger);
       ledger = closedOf (b .table) (b .roll) (b .ledger);
     }
 
-unfoldable pub afterAll : List Call → Held → Held
-afterAll [] b = b
-afterAll (x ∷ xs) b = afterAll xs (after x b)
+unfoldable pub heldAfterAll : List Call → Held → Held
+heldAfterAll [] b = b
+heldAfterAll (x ∷ xs) b = heldAfterAll xs (heldAfter x b)
 
 -- what is held when a ledger was opened, on a table of any bytes and on a roll
-unfoldable pub opened : List ℕ → List ℕ → Held
-opened t r = record { table = t; roll = rollAfterOpen r; ledger = openedOf r }
+unfoldable pub heldAtOpening : List ℕ → List ℕ → Held
+heldAtOpening t r = record { table = t; roll = rollAfterOpen r; ledger = openedOf r }
 
 -- ONE CASE. Two lists with the same members are the same set
 abbrev pub SameMembers : List (List ℕ) → List (List ℕ) → Type 0
@@ -173,16 +173,16 @@ pub record History (calls : List Call) (t r : List ℕ) : Type 0 where
   pub past : Past
   pub leads : Leads (length t) (length r) freshPast calls past
   pub only : (q : Past) → Leads (length t) (length r) freshPast calls q → q ≡ past
-  pub shows : Shows (afterAll calls (opened t r)) past
+  pub shows : Shows (heldAfterAll calls (heldAtOpening t r)) past
 
 -- THE NEXT CASE on what is held after a past: it is accepted exactly when it is valid after that past and there is room, and then it is part of the past
 pub record NextCase (tableLength : ℕ) (b : Held) (p : Past) (c : List ℕ) : Type 0 where
   pub exactly : (answerOn c b ≡ accepted) ↔ (ValidAfter p c × RoomForCase tableLength p)
-  pub shows : answerOn c b ≡ accepted → Shows (after (judged c) b) (withCase c p)
+  pub shows : answerOn c b ≡ accepted → Shows (heldAfter (judged c) b) (withCase c p)
 
 -- THE COUNTS of what is held, after so many cases taken and so many blocks closed: two nullifiers and two leaves for each case, and an anchor for each
 -- block beside the first
-pub record Counts (b : Held) (cases blocks : ℕ) : Type 0 where
+pub record CountsAfter (b : Held) (cases blocks : ℕ) : Type 0 where
   pub nullifiers : b .ledger .nullifiers ≡ 2 * cases
   pub leaves : b .ledger .tree .leaves ≡ 2 * cases
   pub anchors : b .ledger .anchors ≡ 1 + blocks

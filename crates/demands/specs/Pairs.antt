@@ -8,11 +8,11 @@ use mathlib.Core.Bool.{true}
 use mathlib.Core.List.{List, _++_, List·Memᴰ}
 use lib.ListN.{length}
 use Rattle.units.specs.Pairs.{ForBoth}
-use Rattle.refusals.specs.Table.{answer, accepted}
+use Rattle.refusals.specs.Rules.{answer, accepted}
 use Rattle.casefile.specs.Fields.{hasLength, nullifierOf}
 use Rattle.tree.specs.Record.{grown}
 use Rattle.ledger.specs.Ledgers.{mostNullifiers, roomIn}
-use Rattle.demands.specs.Histories.{judged, Held, spentIn, after, answerOn, ValidOn, commitmentsOf}
+use Rattle.demands.specs.Histories.{judged, Held, spentIn, heldAfter, answerOn, ValidOn, commitmentsOf}
 
 -- they share no nullifier; a file of the wrong length has none
 abbrev pub ShareNone : List ℕ → List ℕ → Type 0
@@ -43,7 +43,7 @@ NoneSpent d b = ForBoth (λ i. List·Memᴰ (nullifierOf i d) (spentIn b) → �
 
 -- what is held after c and then d
 abbrev pub afterBoth : List ℕ → List ℕ → Held → Held
-afterBoth c d b = after (judged d) (after (judged c) b)
+afterBoth c d b = heldAfter (judged d) (heldAfter (judged c) b)
 
 -- THE SAME END: the bytes of table and roll, the counts and the pool. To the record that both orders began with the one adds c's commitments and then
 -- d's, the other d's and then c's
@@ -59,15 +59,15 @@ pub record SameEnd (c d : List ℕ) (b : Held) : Type 0 where
 -- both are accepted, in either order, and end alike
 pub record BothPass (c d : List ℕ) (b : Held) : Type 0 where
   pub c-first : answerOn c b ≡ accepted
-  pub then-d : answerOn d (after (judged c) b) ≡ accepted
+  pub then-d : answerOn d (heldAfter (judged c) b) ≡ accepted
   pub d-first : answerOn d b ≡ accepted
-  pub then-c : answerOn c (after (judged d) b) ≡ accepted
+  pub then-c : answerOn c (heldAfter (judged d) b) ≡ accepted
   pub same-end : SameEnd c d b
 
 -- THE ORDER DOES NOT MATTER: to be first is to be alone, and the second is answered as if it were first; two that are valid both pass
 pub record OrderFree (c d : List ℕ) (b : Held) : Type 0 where
-  pub c-second : answerOn c (after (judged d) b) ≡ answerOn c b
-  pub d-second : answerOn d (after (judged c) b) ≡ answerOn d b
+  pub c-second : answerOn c (heldAfter (judged d) b) ≡ answerOn c b
+  pub d-second : answerOn d (heldAfter (judged c) b) ≡ answerOn d b
   pub both : ValidOn c b → ValidOn d b → BothPass c d b
 
 -- ONE OF TWO: c passes, and d after it is refused with 8, at its lowest place that c spent
@@ -75,4 +75,4 @@ pub record OneOfTwo (c d : List ℕ) (b : Held) : Type 0 where
   pub c-passes : answerOn c b ≡ accepted
   pub place : ℕ
   pub lowest : LowestShared c d place
-  pub d-refused : answerOn d (after (judged c) b) ≡ answer 8 place
+  pub d-refused : answerOn d (heldAfter (judged c) b) ≡ answer 8 place

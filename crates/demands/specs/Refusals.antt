@@ -10,7 +10,7 @@ use lib.IntN.{natAbs}
 use lib.ListN.{length}
 use Rattle.units.specs.Limits.{maxMoney, treeLeaves}
 use Rattle.refusals.specs.declared.Answer.{Answer}
-use Rattle.refusals.specs.Table.{answer}
+use Rattle.refusals.specs.Rules.{answer}
 use Rattle.refusals.specs.Sentences.{Sentence, refuse, OneOf}
 use Rattle.sprout.specs.Hashes.{addressFrom, nullifierFrom, macFrom, rhoFrom}
 use Rattle.tree.specs.Record.{pathEnd}

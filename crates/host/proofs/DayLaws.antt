@@ -13,7 +13,7 @@ use Rattle.octets.specs.Parts.{field, pasted}
 use Rattle.octets.specs.Numbers.{littleBytes}
 use Rattle.octets.proofs.NumberLaws.{little-bytes}
 use Rattle.octets.proofs.PartLaws.{field-left, field-all, pasted-is, pasted-length}
-use Rattle.books.specs.DayList.{entered}
+use Rattle.books.specs.DayList.{withDayRow}
 use Rattle.host.specs.Books.{dayRow, dayAnswer, dayAfter, dayRowOf, dayRows, dayList}
 
 -- what is copied in past the first k bytes is copied into the rest
@@ -63,11 +63,11 @@ row-long seal a = refl
 
 -- the law, of an answer that is one
 pub day-entered : (i seal a : ℕ) (b : List ℕ) → seal < 2 ^ 32 → a < 65536
-    → dayList (dayAfter i seal a b) ≡ entered i (record { seal = seal; answer = a % 256; place = a / 256 % 256 }) (dayList b)
-unfolding dayAnswer dayAfter entered
+    → dayList (dayAfter i seal a b) ≡ withDayRow i (record { seal = seal; answer = a % 256; place = a / 256 % 256 }) (dayList b)
+unfolding dayAnswer dayAfter withDayRow
 day-entered i seal a b h k = go (decLe (length b / 6) i)
   where
-    go : Dec (length b / 6 ≤ i) → dayList (dayAfter i seal a b) ≡ entered i (record { seal = seal; answer = a % 256; place = a / 256 % 256 }) (dayList b)
+    go : Dec (length b / 6 ≤ i) → dayList (dayAfter i seal a b) ≡ withDayRow i (record { seal = seal; answer = a % 256; place = a / 256 % 256 }) (dayList b)
     go (yes l) =
         rw (le-ltb i (length b / 6) l, rows-length (length b / 6) b, le-ltb i (length b / 6) l)
     go (no l) =

@@ -13,7 +13,7 @@ use Rattle.octets.specs.Numbers.{littleBytes}
 use Rattle.octets.proofs.ByteLaws.{field-below}
 use Rattle.octets.proofs.NumberLaws.{little-bytes, little-bytes-length}
 use Rattle.octets.proofs.PartLaws.{field-left, field-right, field-all}
-use Rattle.refusals.proofs.TableLaws.{by-test}
+use Rattle.refusals.proofs.RuleLaws.{by-test}
 use Rattle.books.specs.declared.Tally.{Tally}
 use Rattle.books.specs.Tally.{full, isFull, countOf, raised, tallyOf}
 use Rattle.host.specs.Answers.{isLong}

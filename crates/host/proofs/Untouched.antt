@@ -7,65 +7,65 @@ use mathlib.Core.Bool.{true, false, _&&_, true≢false}
 use mathlib.Core.List.{List}
 use Rattle.octets.specs.Parts.{Bytes, zeros}
 use Rattle.octets.specs.Numbers.{littleBytes}
-use Rattle.refusals.specs.Table.{isAccepted}
+use Rattle.refusals.specs.Rules.{isAccepted}
 use Rattle.octets.proofs.BoolLaws.{and-both}
-use Rattle.refusals.proofs.TableLaws.{by-test}
+use Rattle.refusals.proofs.RuleLaws.{by-test}
 use Rattle.seal.specs.declared.Calibration.{Calibration}
 use Rattle.seal.specs.declared.Read.{Read}
 use Rattle.seal.specs.declared.Read.the-variants.{Seal, Broken}
 use Rattle.seal.specs.declared.Sealed.{Sealed}
 use Rattle.seal.specs.declared.Sealed.the-variants.{Passed, BadLimit, NotFinite, Outside}
 use Rattle.seal.specs.Body.{readOf}
-use Rattle.seal.specs.Judgement.{judgeOf, sealAnswer}
+use Rattle.seal.specs.Pull.{judgeOf, sealAnswer}
 use Rattle.tree.specs.Record.{freshOf}
-use Rattle.ledger.specs.Ledgers.{startOf}
+use Rattle.ledger.specs.Ledgers.{emptyLedger}
 use Rattle.ledger.proofs.Endings.{open-refused, close-refused}
-use Rattle.ledgerbytes.specs.Keeping.{isWhole, ledgerOf, bitsOf, headOf, bytesOf, written}
+use Rattle.ledgerbytes.specs.LedgerBytes.{isWhole, ledgerOf, bitsOf, headOf, ledgerBytes, bufferAfterWrite}
 use Rattle.ledgerbytes.proofs.KeepingLaws.{written-read}
 use Rattle.judge.specs.Judging.{answerOf}
 use Rattle.judge.proofs.Outcomes.{refused-table}
-use Rattle.bag.specs.Scanning.{judgedCases, tableAfterScan}
+use Rattle.bag.specs.SealAndCases.{judgedCases, tableAfterBag}
 use Rattle.demands.specs.Histories.{Held}
 use Rattle.demands.specs.Bags.{answersTo, NoneAccepted}
 use Rattle.demands.proofs.Bags.{bag-is-calls, none-accepted}
 use Rattle.host.specs.Answers.{isLong}
-use Rattle.host.specs.Ledgers.{openAnswer, openLedger, openRoll, judgeAnswer, judgeLedger, judgeTable, closeAnswer, closeLedger, closeRoll, rootAnswer, rootAfter, hashAnswer, hashAfter}
-use Rattle.host.specs.Bags.{readAnswer, handed, readPull, bodyAnswer, pullAfter, ownAnswer, scanOf, bagAnswer, bagLedger, bagTable, bagReport}
+use Rattle.host.specs.Ledgers.{openAnswer, ledgerAfterOpenCall, rollAfterOpenCall, judgeAnswer, ledgerAfterJudgeCall, tableAfterJudgeCall, closeAnswer, ledgerAfterCloseCall, rollAfterCloseCall, rootAnswer, rootAfter, hashAnswer, hashAfter}
+use Rattle.host.specs.Bags.{readAnswer, handed, readPull, bodyAnswer, pullAfter, ownAnswer, scanOf, bagAnswer, ledgerAfterBagCall, tableAfterBagCall, reportAfterBagCall}
 use Rattle.host.specs.Books.{tallyAnswer, tallyAfter, dayAnswer, dayAfter}
 use Rattle.host.proofs.KeptLaws.{refused-none}
 
-pub judge-leaves : (c s t r : List ℕ) → isAccepted (judgeAnswer c s t r) ≡ false → (judgeLedger c s t r ≡ s) × (judgeTable c s t r ≡ t)
-unfolding judgeLedger judgeTable judgeAnswer
+pub judge-leaves : (c s t r : List ℕ) → isAccepted (judgeAnswer c s t r) ≡ false → (ledgerAfterJudgeCall c s t r ≡ s) × (tableAfterJudgeCall c s t r ≡ t)
+unfolding ledgerAfterJudgeCall tableAfterJudgeCall judgeAnswer
 judge-leaves c s t r h =
     by-test (isWhole s)
     (λ w. let e : isAccepted (answerOf c t r (ledgerOf s)) ≡ false = rw w at h in (rw (w, e), rw w (refused-table c t r (ledgerOf s) e)))
     (λ w. (rw w, rw w))
 
-pub close-leaves : (s t r : List ℕ) → isAccepted (closeAnswer s t r) ≡ false → (closeLedger s t r ≡ s) × (closeRoll s t r ≡ r)
-unfolding closeLedger closeRoll closeAnswer
+pub close-leaves : (s t r : List ℕ) → isAccepted (closeAnswer s t r) ≡ false → (ledgerAfterCloseCall s t r ≡ s) × (rollAfterCloseCall s t r ≡ r)
+unfolding ledgerAfterCloseCall rollAfterCloseCall closeAnswer
 close-leaves s t r h =
     by-test (isWhole s)
     (λ w. let e = rw w at h in (rw (w, e), rw w (sym (close-refused t r (ledgerOf s) e .1))))
     (λ w. (rw w, rw w))
 
-pub open-leaves-roll : (s r : List ℕ) → isAccepted (openAnswer s r) ≡ false → openRoll s r ≡ r
-unfolding openRoll openAnswer
+pub open-leaves-roll : (s r : List ℕ) → isAccepted (openAnswer s r) ≡ false → rollAfterOpenCall s r ≡ r
+unfolding rollAfterOpenCall openAnswer
 open-leaves-roll s r h =
     by-test (isWhole s)
     (λ w. let e = rw w at h in rw w (sym (open-refused r e .1)))
     (λ w. rw w)
 
 -- a ledger's buffer of another length stays; else it is zeros
-pub open-leaves-ledger : (s r : List ℕ) → isWhole s ≡ false → openLedger s r ≡ s
-unfolding written
+pub open-leaves-ledger : (s r : List ℕ) → isWhole s ≡ false → ledgerAfterOpenCall s r ≡ s
+unfolding bufferAfterWrite
 open-leaves-ledger s r w = rw w
 
-no-ledger : bytesOf (startOf 0) ≡ zeros 988
-unfolding bytesOf headOf startOf freshOf bitsOf littleBytes
+no-ledger : ledgerBytes (emptyLedger 0) ≡ zeros 988
+unfolding ledgerBytes headOf emptyLedger freshOf bitsOf littleBytes
 no-ledger = refl
 
-pub open-zeros : (s r : List ℕ) → isWhole s ≡ true → isAccepted (openAnswer s r) ≡ false → openLedger s r ≡ zeros 988
-unfolding written openAnswer
+pub open-zeros : (s r : List ℕ) → isWhole s ≡ true → isAccepted (openAnswer s r) ≡ false → ledgerAfterOpenCall s r ≡ zeros 988
+unfolding bufferAfterWrite openAnswer
 open-zeros s r w h = let e = rw w at h in rw (w, ← open-refused r e .0) no-ledger
 
 pub root-leaves : (s o : List ℕ) → isAccepted (rootAnswer s o) ≡ false → rootAfter s o ≡ o
@@ -107,25 +107,25 @@ module _ (k : Calibration) (b s t r o : List ℕ) where
   abbrev before : Held
   before = record { table = t; roll = r; ledger = ledgerOf s }
 
-  none-left : NoneAccepted (answersTo (judgedCases k b) before) → (scanOf k b s t r .ledger ≡ ledgerOf s) × (tableAfterScan k b t r (ledgerOf s) ≡ t)
+  none-left : NoneAccepted (answersTo (judgedCases k b) before) → (scanOf k b s t r .ledger ≡ ledgerOf s) × (tableAfterBag k b t r (ledgerOf s) ≡ t)
   none-left n =
       let a = bag-is-calls k b before in
       let e = none-accepted (judgedCases k b) before n in
       (a .ledger ∙ ap (λ (h : Held). h .ledger) e, a .table ∙ ap (λ (h : Held). h .table) e)
 
-  table-left : NoneAccepted (answersTo (judgedCases k b) before) → bagTable k b s t r o ≡ t
-  unfolding bagTable
+  table-left : NoneAccepted (answersTo (judgedCases k b) before) → tableAfterBagCall k b s t r o ≡ t
+  unfolding tableAfterBagCall
   table-left n = by-test (isWhole s && isLong 32 o) (λ e. rw e (none-left n .1)) (λ e. rw e)
 
   -- no byte of the ledger, the table or the roll changes
-  pub none-accepted-leaves : Bytes s → NoneAccepted (answersTo (judgedCases k b) before) → (bagLedger k b s t r o ≡ s) × (bagTable k b s t r o ≡ t)
-  unfolding bagLedger bagAnswer
+  pub none-accepted-leaves : Bytes s → NoneAccepted (answersTo (judgedCases k b) before) → (ledgerAfterBagCall k b s t r o ≡ s) × (tableAfterBagCall k b s t r o ≡ t)
+  unfolding ledgerAfterBagCall bagAnswer
   none-accepted-leaves h n =
-      (by-test (isWhole s) (λ w. by-test (isAccepted (bagAnswer k b s t r o)) (λ e. rw e (ap bytesOf (none-left n .0) ∙ written-read s h w)) (λ e. rw e)) (λ w. rw w), table-left n)
+      (by-test (isWhole s) (λ w. by-test (isAccepted (bagAnswer k b s t r o)) (λ e. rw e (ap ledgerBytes (none-left n .0) ∙ written-read s h w)) (λ e. rw e)) (λ w. rw w), table-left n)
 
   -- and where the bag itself is refused, none of the report either
-  pub bag-leaves : isAccepted (bagAnswer k b s t r o) ≡ false → (bagLedger k b s t r o ≡ s) × ((bagTable k b s t r o ≡ t) × (bagReport k b s t r o ≡ o))
-  unfolding bagLedger bagReport bagTable bagAnswer answersTo NoneAccepted
+  pub bag-leaves : isAccepted (bagAnswer k b s t r o) ≡ false → (ledgerAfterBagCall k b s t r o ≡ s) × ((tableAfterBagCall k b s t r o ≡ t) × (reportAfterBagCall k b s t r o ≡ o))
+  unfolding ledgerAfterBagCall reportAfterBagCall tableAfterBagCall bagAnswer answersTo NoneAccepted
   bag-leaves h =
       (rw h, (by-test (isWhole s && isLong 32 o) (λ e. table-left (rw (refused-none k b s t r o (own e)) tt)) (λ e. rw e), rw h))
     where

@@ -6,7 +6,7 @@ use mathlib.Core.List.{List}
 use lib.Dec.{eqb}
 use lib.ListN.{length}
 use Rattle.refusals.specs.declared.Answer.{Answer}
-use Rattle.refusals.specs.Table.{answer}
+use Rattle.refusals.specs.Rules.{answer}
 
 -- one number: the refusal's own, and 256 times its place
 abbrev pub codeOf : Answer → ℕ

@@ -7,17 +7,17 @@ use lib.Ieee.{Float, binary64, toBits}
 use Rattle.octets.specs.Parts.{pasted}
 use Rattle.octets.specs.Numbers.{littleBytes}
 use Rattle.refusals.specs.declared.Answer.{Answer}
-use Rattle.refusals.specs.Table.{answer, isAccepted}
+use Rattle.refusals.specs.Rules.{answer, isAccepted}
 use Rattle.seal.specs.declared.Calibration.{Calibration}
 use Rattle.seal.specs.declared.Read.{Read}
 use Rattle.seal.specs.declared.Read.the-variants.{Seal, Broken}
 use Rattle.seal.specs.declared.Sealed.{Sealed}
 use Rattle.seal.specs.declared.Sealed.the-variants.{Passed, BadLimit, NotFinite, Outside}
 use Rattle.seal.specs.Body.{readOf}
-use Rattle.seal.specs.Judgement.{judgeOf, sealAnswer}
-use Rattle.ledgerbytes.specs.Keeping.{isWhole, ledgerOf, bytesOf}
+use Rattle.seal.specs.Pull.{judgeOf, sealAnswer}
+use Rattle.ledgerbytes.specs.LedgerBytes.{isWhole, ledgerOf, ledgerBytes}
 use Rattle.bag.specs.declared.Scanned.{Scanned}
-use Rattle.bag.specs.Scanning.{scannedOf, tableAfterScan}
+use Rattle.bag.specs.SealAndCases.{scannedOf, tableAfterBag}
 use Rattle.host.specs.Answers.{codeOf, wrongLength, isLong}
 
 -- THE SEAL alone, b its body and o the buffer for the pull: a broken body is 20, and only a pass hands the pull out, all its bits in eight bytes
@@ -54,11 +54,11 @@ scanOf k b s t r = scannedOf k b t r (ledgerOf s)
 unfoldable pub bagAnswer : Calibration → List ℕ → List ℕ → List ℕ → List ℕ → List ℕ → Answer
 bagAnswer k b s t r o = cond (isWhole s) (cond (isLong 32 o) (ownAnswer (scanOf k b s t r)) (wrongLength 3)) (wrongLength 1)
 
-unfoldable pub bagLedger : Calibration → List ℕ → List ℕ → List ℕ → List ℕ → List ℕ → List ℕ
-bagLedger k b s t r o = cond (isAccepted (bagAnswer k b s t r o)) (bytesOf (scanOf k b s t r .ledger)) s
+unfoldable pub ledgerAfterBagCall : Calibration → List ℕ → List ℕ → List ℕ → List ℕ → List ℕ → List ℕ
+ledgerAfterBagCall k b s t r o = cond (isAccepted (bagAnswer k b s t r o)) (ledgerBytes (scanOf k b s t r .ledger)) s
 
-unfoldable pub bagTable : Calibration → List ℕ → List ℕ → List ℕ → List ℕ → List ℕ → List ℕ
-bagTable k b s t r o = cond (isWhole s && isLong 32 o) (tableAfterScan k b t r (ledgerOf s)) t
+unfoldable pub tableAfterBagCall : Calibration → List ℕ → List ℕ → List ℕ → List ℕ → List ℕ → List ℕ
+tableAfterBagCall k b s t r o = cond (isWhole s && isLong 32 o) (tableAfterBag k b t r (ledgerOf s)) t
 
 -- what the cases were answered: how many they are, and seven answers, four bytes each
 unfoldable pub answersOf : List Answer → List ℕ
@@ -68,5 +68,5 @@ answersOf (a ∷ rest) = littleBytes 4 (codeOf a) ++ answersOf rest
 unfoldable pub reportOf : Scanned → List ℕ
 reportOf x = littleBytes 4 (x .cases) ++ answersOf (x .answers)
 
-unfoldable pub bagReport : Calibration → List ℕ → List ℕ → List ℕ → List ℕ → List ℕ → List ℕ
-bagReport k b s t r o = cond (isAccepted (bagAnswer k b s t r o)) (reportOf (scanOf k b s t r)) o
+unfoldable pub reportAfterBagCall : Calibration → List ℕ → List ℕ → List ℕ → List ℕ → List ℕ → List ℕ
+reportAfterBagCall k b s t r o = cond (isAccepted (bagAnswer k b s t r o)) (reportOf (scanOf k b s t r)) o

@@ -8,7 +8,7 @@ use lib.ListN.{length, getD, drop}
 use Rattle.octets.specs.Parts.{field, pasted}
 use Rattle.octets.specs.Numbers.{little, littleBytes}
 use Rattle.refusals.specs.declared.Answer.{Answer}
-use Rattle.refusals.specs.Table.{accepted, isAccepted}
+use Rattle.refusals.specs.Rules.{accepted, isAccepted}
 use Rattle.books.specs.declared.DayRow.{DayRow}
 use Rattle.books.specs.declared.Tally.{Tally}
 use Rattle.books.specs.declared.Tallied.{Tallied}

@@ -5,43 +5,43 @@ use Prim.Native.Nat.{ℕ}
 use mathlib.Core.Bool.{cond}
 use mathlib.Core.List.{List}
 use Rattle.refusals.specs.declared.Answer.{Answer}
-use Rattle.refusals.specs.Table.{first, accepted, isAccepted}
+use Rattle.refusals.specs.Rules.{first, accepted, isAccepted}
 use Rattle.sha256.specs.Hash.{sha256Of}
 use Rattle.tree.specs.Record.{recordRoot}
-use Rattle.ledger.specs.Ledgers.{openTable, openedOf, rollAfterOpen, closeTable, closedOf, rollAfterClose}
-use Rattle.ledgerbytes.specs.Keeping.{isWhole, ledgerOf, bytesOf, written}
-use Rattle.judge.specs.Judging.{answerOf, ledgerAfter, tableAfter}
+use Rattle.ledger.specs.Ledgers.{openRefusals, openedOf, rollAfterOpen, closeRefusals, closedOf, rollAfterClose}
+use Rattle.ledgerbytes.specs.LedgerBytes.{isWhole, ledgerOf, ledgerBytes, bufferAfterWrite}
+use Rattle.judge.specs.Judging.{answerOf, ledgerAfterCase, tableAfterCase}
 use Rattle.host.specs.Answers.{wrongLength, isLong}
 
 -- OPENING. Where the roll has no row, the ledger that comes back is all zeros, and so are its bytes
 unfoldable pub openAnswer : List ℕ → List ℕ → Answer
-openAnswer s r = cond (isWhole s) (first (openTable r)) (wrongLength 1)
+openAnswer s r = cond (isWhole s) (first (openRefusals r)) (wrongLength 1)
 
-abbrev pub openLedger : List ℕ → List ℕ → List ℕ
-openLedger s r = written (openedOf r) s
+abbrev pub ledgerAfterOpenCall : List ℕ → List ℕ → List ℕ
+ledgerAfterOpenCall s r = bufferAfterWrite (openedOf r) s
 
-unfoldable pub openRoll : List ℕ → List ℕ → List ℕ
-openRoll s r = cond (isWhole s) (rollAfterOpen r) r
+unfoldable pub rollAfterOpenCall : List ℕ → List ℕ → List ℕ
+rollAfterOpenCall s r = cond (isWhole s) (rollAfterOpen r) r
 
 -- JUDGING a case, c
 unfoldable pub judgeAnswer : List ℕ → List ℕ → List ℕ → List ℕ → Answer
 judgeAnswer c s t r = cond (isWhole s) (answerOf c t r (ledgerOf s)) (wrongLength 1)
 
-unfoldable pub judgeLedger : List ℕ → List ℕ → List ℕ → List ℕ → List ℕ
-judgeLedger c s t r = cond (isAccepted (judgeAnswer c s t r)) (bytesOf (ledgerAfter c t r (ledgerOf s))) s
+unfoldable pub ledgerAfterJudgeCall : List ℕ → List ℕ → List ℕ → List ℕ → List ℕ
+ledgerAfterJudgeCall c s t r = cond (isAccepted (judgeAnswer c s t r)) (ledgerBytes (ledgerAfterCase c t r (ledgerOf s))) s
 
-unfoldable pub judgeTable : List ℕ → List ℕ → List ℕ → List ℕ → List ℕ
-judgeTable c s t r = cond (isWhole s) (tableAfter c t r (ledgerOf s)) t
+unfoldable pub tableAfterJudgeCall : List ℕ → List ℕ → List ℕ → List ℕ → List ℕ
+tableAfterJudgeCall c s t r = cond (isWhole s) (tableAfterCase c t r (ledgerOf s)) t
 
 -- CLOSING a block
 unfoldable pub closeAnswer : List ℕ → List ℕ → List ℕ → Answer
-closeAnswer s t r = cond (isWhole s) (first (closeTable t r (ledgerOf s))) (wrongLength 1)
+closeAnswer s t r = cond (isWhole s) (first (closeRefusals t r (ledgerOf s))) (wrongLength 1)
 
-unfoldable pub closeLedger : List ℕ → List ℕ → List ℕ → List ℕ
-closeLedger s t r = cond (isAccepted (closeAnswer s t r)) (bytesOf (closedOf t r (ledgerOf s))) s
+unfoldable pub ledgerAfterCloseCall : List ℕ → List ℕ → List ℕ → List ℕ
+ledgerAfterCloseCall s t r = cond (isAccepted (closeAnswer s t r)) (ledgerBytes (closedOf t r (ledgerOf s))) s
 
-unfoldable pub closeRoll : List ℕ → List ℕ → List ℕ → List ℕ
-closeRoll s t r = cond (isWhole s) (rollAfterClose t r (ledgerOf s)) r
+unfoldable pub rollAfterCloseCall : List ℕ → List ℕ → List ℕ → List ℕ
+rollAfterCloseCall s t r = cond (isWhole s) (rollAfterClose t r (ledgerOf s)) r
 
 -- THE ROOT of the ledger's record, into the buffer o
 unfoldable pub rootAnswer : List ℕ → List ℕ → Answer

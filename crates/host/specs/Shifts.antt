@@ -4,13 +4,13 @@ use Prim.Native.Nat.{ℕ}
 use mathlib.Core.Bool.{cond}
 use mathlib.Core.List.{List, [], _∷_, _++_}
 use Rattle.seal.specs.declared.Calibration.{Calibration}
-use Rattle.ledgerbytes.specs.Keeping.{ledgerOf}
-use Rattle.bag.specs.Scanning.{judgedCases}
+use Rattle.ledgerbytes.specs.LedgerBytes.{ledgerOf}
+use Rattle.bag.specs.SealAndCases.{judgedCases}
 use Rattle.demands.specs.Histories.{Call, judged, closed, Held}
 use Rattle.demands.specs.Bags.{callsOf}
 use Rattle.host.specs.Answers.{isLong}
-use Rattle.host.specs.Ledgers.{openLedger, openRoll, judgeLedger, judgeTable, closeLedger, closeRoll}
-use Rattle.host.specs.Bags.{bagLedger, bagTable}
+use Rattle.host.specs.Ledgers.{ledgerAfterOpenCall, rollAfterOpenCall, ledgerAfterJudgeCall, tableAfterJudgeCall, ledgerAfterCloseCall, rollAfterCloseCall}
+use Rattle.host.specs.Bags.{ledgerAfterBagCall, tableAfterBagCall}
 
 -- what a host keeps: the ledger's own 988 bytes, its nullifier table and its anchor roll
 pub record Buffers : Type 0 where
@@ -32,11 +32,11 @@ pub data HostCall : Type 0 where
 -- the buffers after a call, and after some
 unfoldable pub buffersAfter : HostCall → Buffers → Buffers
 buffersAfter (judge-call c) b =
-    record { ledger = judgeLedger c (b .ledger) (b .table) (b .roll); table = judgeTable c (b .ledger) (b .table) (b .roll); roll = b .roll }
+    record { ledger = ledgerAfterJudgeCall c (b .ledger) (b .table) (b .roll); table = tableAfterJudgeCall c (b .ledger) (b .table) (b .roll); roll = b .roll }
 buffersAfter (bag-call k g o) b =
-    record { ledger = bagLedger k g (b .ledger) (b .table) (b .roll) o; table = bagTable k g (b .ledger) (b .table) (b .roll) o; roll = b .roll }
+    record { ledger = ledgerAfterBagCall k g (b .ledger) (b .table) (b .roll) o; table = tableAfterBagCall k g (b .ledger) (b .table) (b .roll) o; roll = b .roll }
 buffersAfter close-call b =
-    record { ledger = closeLedger (b .ledger) (b .table) (b .roll); table = b .table; roll = closeRoll (b .ledger) (b .table) (b .roll) }
+    record { ledger = ledgerAfterCloseCall (b .ledger) (b .table) (b .roll); table = b .table; roll = rollAfterCloseCall (b .ledger) (b .table) (b .roll) }
 
 unfoldable pub afterShift : List HostCall → Buffers → Buffers
 afterShift [] b = b
@@ -44,7 +44,7 @@ afterShift (x ∷ xs) b = afterShift xs (buffersAfter x b)
 
 -- the buffers of a ledger that was opened in s and r, beside a table of any bytes
 unfoldable pub openedBuffers : List ℕ → List ℕ → List ℕ → Buffers
-openedBuffers s t r = record { ledger = openLedger s r; table = t; roll = openRoll s r }
+openedBuffers s t r = record { ledger = ledgerAfterOpenCall s r; table = t; roll = rollAfterOpenCall s r }
 
 -- the calls on a ledger that they are; a bag with no buffer for its report is refused before a case is looked at
 unfoldable pub callsIn : HostCall → List Call

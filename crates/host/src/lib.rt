@@ -1,16 +1,17 @@
 // What a scanner's firmware links, by way of entry/calls.c: C functions on numbers and bytes. A host
 // keeps a ledger in three buffers, its own 988 bytes, its table and its roll; nothing is kept here from
-// call to call. Each call leaves the work to the rooms below; of the ledger's bytes it reads what is asked
+// call to call. Each call leaves the work to the crates below; of the ledger's bytes it reads what is asked
 // for, and writes back what changed.
 ghost use mathlib.Core.Path.{_≡_};
 ghost use lib.Ieee.{binary64, toBits};
-ghost use Rattle.seal.specs.Judgement.{sealAnswer};
+ghost use Rattle.seal.specs.Pull.{sealAnswer};
 ghost use Rattle.host.specs.Answers.{codeOf};
-ghost use Rattle.host.specs.Ledgers.{openAnswer, openLedger, openRoll, judgeAnswer, judgeLedger, judgeTable, closeAnswer, closeLedger, closeRoll, rootAnswer, rootAfter, hashAnswer, hashAfter};
-ghost use Rattle.host.specs.Bags.{handed, bodyAnswer, pullAfter, ownAnswer, bagAnswer, bagLedger, bagTable, answersOf, reportOf, bagReport};
+ghost use Rattle.host.specs.Ledgers.{openAnswer, ledgerAfterOpenCall, rollAfterOpenCall, judgeAnswer, ledgerAfterJudgeCall, tableAfterJudgeCall, closeAnswer, ledgerAfterCloseCall, rollAfterCloseCall, rootAnswer, rootAfter, hashAnswer, hashAfter};
+ghost use Rattle.host.specs.Bags.{handed, bodyAnswer, pullAfter, ownAnswer, bagAnswer, ledgerAfterBagCall, tableAfterBagCall, answersOf, reportOf, reportAfterBagCall};
 ghost use Rattle.host.specs.Books.{tallyIn, tallyBytes, tallyAnswer, tallyAfter, dayRow, dayAnswer, dayAfter};
 use bag::Scanned;
 use books::Tally;
+use ledgerbytes::LEDGER_LENGTH;
 use refusals::Answer;
 use seal::Calibration;
 use seal::Read;
@@ -27,10 +28,10 @@ fn code(a: Answer) -> u32
 #[no_mangle]
 pub extern "C" fn snaldrek_proved_open(ledger: &mut [u8], roll: &mut [u8]) -> u32
     ensures { λ r. ⌜ r ≡ codeOf (openAnswer (now (ledger .entry)) (now (roll .entry))) ⌝ }
-    ensures { λ _. ⌜ now (ledger .exit) ≡ openLedger (now (ledger .entry)) (now (roll .entry)) ⌝ }
-    ensures { λ _. ⌜ now (roll .exit) ≡ openRoll (now (ledger .entry)) (now (roll .entry)) ⌝ }
+    ensures { λ _. ⌜ now (ledger .exit) ≡ ledgerAfterOpenCall (now (ledger .entry)) (now (roll .entry)) ⌝ }
+    ensures { λ _. ⌜ now (roll .exit) ≡ rollAfterOpenCall (now (ledger .entry)) (now (roll .entry)) ⌝ }
 {
-    if ledger.len() != 988 {
+    if ledger.len() != LEDGER_LENGTH {
         return code(Answer::refused(51, 1));
     }
     let opened = judge::open(roll);
@@ -47,10 +48,10 @@ pub extern "C" fn snaldrek_proved_judge(
     roll: &[u8],
 ) -> u32
     ensures { λ r. ⌜ r ≡ codeOf (judgeAnswer (now (case .entry)) (now (ledger .entry)) (now (table .entry)) (now (roll .entry))) ⌝ }
-    ensures { λ _. ⌜ now (ledger .exit) ≡ judgeLedger (now (case .entry)) (now (ledger .entry)) (now (table .entry)) (now (roll .entry)) ⌝ }
-    ensures { λ _. ⌜ now (table .exit) ≡ judgeTable (now (case .entry)) (now (ledger .entry)) (now (table .entry)) (now (roll .entry)) ⌝ }
+    ensures { λ _. ⌜ now (ledger .exit) ≡ ledgerAfterJudgeCall (now (case .entry)) (now (ledger .entry)) (now (table .entry)) (now (roll .entry)) ⌝ }
+    ensures { λ _. ⌜ now (table .exit) ≡ tableAfterJudgeCall (now (case .entry)) (now (ledger .entry)) (now (table .entry)) (now (roll .entry)) ⌝ }
 {
-    if ledger.len() != 988 {
+    if ledger.len() != LEDGER_LENGTH {
         return code(Answer::refused(51, 1));
     }
     code(judge::judge_kept(case, table, roll, ledger))
@@ -60,10 +61,10 @@ pub extern "C" fn snaldrek_proved_judge(
 #[no_mangle]
 pub extern "C" fn snaldrek_proved_close(ledger: &mut [u8], table: &[u8], roll: &mut [u8]) -> u32
     ensures { λ r. ⌜ r ≡ codeOf (closeAnswer (now (ledger .entry)) (now (table .entry)) (now (roll .entry))) ⌝ }
-    ensures { λ _. ⌜ now (ledger .exit) ≡ closeLedger (now (ledger .entry)) (now (table .entry)) (now (roll .entry)) ⌝ }
-    ensures { λ _. ⌜ now (roll .exit) ≡ closeRoll (now (ledger .entry)) (now (table .entry)) (now (roll .entry)) ⌝ }
+    ensures { λ _. ⌜ now (ledger .exit) ≡ ledgerAfterCloseCall (now (ledger .entry)) (now (table .entry)) (now (roll .entry)) ⌝ }
+    ensures { λ _. ⌜ now (roll .exit) ≡ rollAfterCloseCall (now (ledger .entry)) (now (table .entry)) (now (roll .entry)) ⌝ }
 {
-    if ledger.len() != 988 {
+    if ledger.len() != LEDGER_LENGTH {
         return code(Answer::refused(51, 1));
     }
     code(judge::close_kept(table, roll, ledger))
@@ -75,7 +76,7 @@ pub extern "C" fn snaldrek_proved_root(ledger: &[u8], root: &mut [u8]) -> u32
     ensures { λ r. ⌜ r ≡ codeOf (rootAnswer (now (ledger .entry)) (now (root .entry))) ⌝ }
     ensures { λ _. ⌜ now (root .exit) ≡ rootAfter (now (ledger .entry)) (now (root .entry)) ⌝ }
 {
-    if ledger.len() != 988 {
+    if ledger.len() != LEDGER_LENGTH {
         return code(Answer::refused(51, 1));
     }
     if root.len() != 32 {
@@ -198,11 +199,11 @@ pub extern "C" fn snaldrek_proved_bag(
     report: &mut [u8],
 ) -> u32
     ensures { λ r. ⌜ r ≡ codeOf (bagAnswer (record { gain = gain; offset = offset }) (now (bag .entry)) (now (ledger .entry)) (now (table .entry)) (now (roll .entry)) (now (report .entry))) ⌝ }
-    ensures { λ _. ⌜ now (ledger .exit) ≡ bagLedger (record { gain = gain; offset = offset }) (now (bag .entry)) (now (ledger .entry)) (now (table .entry)) (now (roll .entry)) (now (report .entry)) ⌝ }
-    ensures { λ _. ⌜ now (table .exit) ≡ bagTable (record { gain = gain; offset = offset }) (now (bag .entry)) (now (ledger .entry)) (now (table .entry)) (now (roll .entry)) (now (report .entry)) ⌝ }
-    ensures { λ _. ⌜ now (report .exit) ≡ bagReport (record { gain = gain; offset = offset }) (now (bag .entry)) (now (ledger .entry)) (now (table .entry)) (now (roll .entry)) (now (report .entry)) ⌝ }
+    ensures { λ _. ⌜ now (ledger .exit) ≡ ledgerAfterBagCall (record { gain = gain; offset = offset }) (now (bag .entry)) (now (ledger .entry)) (now (table .entry)) (now (roll .entry)) (now (report .entry)) ⌝ }
+    ensures { λ _. ⌜ now (table .exit) ≡ tableAfterBagCall (record { gain = gain; offset = offset }) (now (bag .entry)) (now (ledger .entry)) (now (table .entry)) (now (roll .entry)) (now (report .entry)) ⌝ }
+    ensures { λ _. ⌜ now (report .exit) ≡ reportAfterBagCall (record { gain = gain; offset = offset }) (now (bag .entry)) (now (ledger .entry)) (now (table .entry)) (now (roll .entry)) (now (report .entry)) ⌝ }
 {
-    if ledger.len() != 988 {
+    if ledger.len() != LEDGER_LENGTH {
         return code(Answer::refused(51, 1));
     }
     if report.len() != 32 {

@@ -6,26 +6,26 @@ use mathlib.Core.Bool.{true}
 use mathlib.Core.List.{List}
 use borrow.Author.Tests.{eqb-true, leb-false}
 use lib.ListN.{length}
-use Rattle.refusals.specs.Table.{None, rowsIn, first, numbered, isAccepted}
-use Rattle.refusals.proofs.TableLaws.{first-none}
+use Rattle.refusals.specs.Rules.{None, rulesIn, first, numbered, isAccepted}
+use Rattle.refusals.proofs.RuleLaws.{first-none}
 use Rattle.ledger.specs.declared.Ledger.{Ledger}
-use Rattle.ledger.specs.Ledgers.{mostAnchors, roomIn, spentRows, anchorRows, damage, damaged, no2, no3, no6, no8, closeTable}
+use Rattle.ledger.specs.Ledgers.{mostAnchors, roomIn, spentRows, anchorRows, damage, damaged, no2, no3, no6, no8, closeRefusals}
 use Rattle.ledgerbytes.specs.declared.Counts.{Counts}
-use Rattle.ledgerbytes.specs.Keeping.{countsOf, bare}
-use Rattle.judge.specs.Judging.{judgeTable, answerOf}
+use Rattle.ledgerbytes.specs.LedgerBytes.{countsOf, bare}
+use Rattle.judge.specs.Judging.{judgeRefusals, answerOf}
 
 module _ (t r : List ℕ) (l : Ledger) (k : Counts) (q : k ≡ countsOf l) where
   pub answered-bare : (c : List ℕ) → answerOf c t r (bare k) ≡ answerOf c t r l
-  unfolding answerOf judgeTable no2 no3 no6 no8 damaged damage spentRows anchorRows
+  unfolding answerOf judgeRefusals no2 no3 no6 no8 damaged damage spentRows anchorRows
   answered-bare c = ap (λ (x : Counts). answerOf c t r (bare x)) q
 
-  pub closing-bare : first (closeTable t r (bare k)) ≡ first (closeTable t r l)
-  unfolding closeTable no2 damaged damage spentRows
-  closing-bare = ap (λ (x : Counts). first (closeTable t r (bare x))) q
+  pub closing-bare : first (closeRefusals t r (bare k)) ≡ first (closeRefusals t r l)
+  unfolding closeRefusals no2 damaged damage spentRows
+  closing-bare = ap (λ (x : Counts). first (closeRefusals t r (bare x))) q
 
 -- a block that can be closed finds a free row of the roll
-pub close-free : (t r : List ℕ) (l : Ledger) → isAccepted (first (closeTable t r l)) ≡ true → l .anchors < roomIn mostAnchors (length r)
-unfolding None closeTable rowsIn numbered no2
+pub close-free : (t r : List ℕ) (l : Ledger) → isAccepted (first (closeRefusals t r l)) ≡ true → l .anchors < roomIn mostAnchors (length r)
+unfolding None closeRefusals rulesIn numbered no2
 close-free t r l h =
-    let n = first-none (closeTable t r l) refl (eqb-true (first (closeTable t r l) .number) 0 h) in
+    let n = first-none (closeRefusals t r l) refl (eqb-true (first (closeRefusals t r l) .number) 0 h) in
     leb-false (roomIn mostAnchors (length r)) (l .anchors) (n .1 .0)

@@ -5,64 +5,64 @@ use mathlib.Core.Path.{_≡_, refl, ap₂, _∙_}
 use mathlib.Core.Bool.{Bool, true, false, not, _||_}
 use mathlib.Core.List.{List, _++_}
 use lib.Dec.{eqb}
-use Rattle.refusals.specs.Table.{Row, rowsIn, first, numbered, lower}
+use Rattle.refusals.specs.Rules.{Rule, rulesIn, first, numbered, lower}
 use Rattle.refusals.proofs.TwoTables.{neverFalls, those, first-lower}
 use Rattle.casefile.specs.Fields.{anchorOf, nullifierOf}
-use Rattle.statement.specs.CaseTable.{no1, no4, no5, no7, no9, no10, no11, no12, no13, no14, no15, no16, publicTable, derivedRefusals, claimRefusals, witnessTable, caseTable}
+use Rattle.statement.specs.CaseRefusals.{no1, no4, no5, no7, no9, no10, no11, no12, no13, no14, no15, no16, publicRefusals, derivedRefusals, claimRefusals, witnessRefusals, caseRefusals}
 use Rattle.ledger.specs.declared.Ledger.{Ledger}
-use Rattle.ledger.specs.Ledgers.{no2, no3, no6, no8, ledgerTable}
-use Rattle.judge.specs.Judging.{judgeTable, frontTable, answerOf}
+use Rattle.ledger.specs.Ledgers.{no2, no3, no6, no8, ledgerRefusals}
+use Rattle.judge.specs.Judging.{judgeRefusals, frontRefusals, answerOf}
 
 -- the numbers that a ledger gives are 2, 3, 6 and 8; all others are the case's
 unfoldable ofCase : ℕ → Bool
 ofCase n = not (eqb n 2 || eqb n 3 || eqb n 6 || eqb n 8)
 
 module _ (c t r : List ℕ) (l : Ledger) where
-  pub numbers : numbered (judgeTable c t r l) ≡ true
-  unfolding judgeTable rowsIn numbered no1 no2 no3 no4 no5 no6 no7 no8 no9 no10 no11 no12 no13 no14 no15 no16
+  pub numbers : numbered (judgeRefusals c t r l) ≡ true
+  unfolding judgeRefusals rulesIn numbered no1 no2 no3 no4 no5 no6 no7 no8 no9 no10 no11 no12 no13 no14 no15 no16
   numbers = refl
 
-  rises : neverFalls (judgeTable c t r l) ≡ true
-  unfolding judgeTable rowsIn neverFalls no1 no2 no3 no4 no5 no6 no7 no8 no9 no10 no11 no12 no13 no14 no15 no16
+  rises : neverFalls (judgeRefusals c t r l) ≡ true
+  unfolding judgeRefusals rulesIn neverFalls no1 no2 no3 no4 no5 no6 no7 no8 no9 no10 no11 no12 no13 no14 no15 no16
   rises = refl
 
-  own-rows : those ofCase true (judgeTable c t r l) ≡ caseTable c
-  unfolding judgeTable caseTable witnessTable claimRefusals derivedRefusals rowsIn those ofCase no1 no2 no3 no4 no5 no6 no7 no8 no9 no10 no11 no12 no13 no14 no15 no16
+  own-rows : those ofCase true (judgeRefusals c t r l) ≡ caseRefusals c
+  unfolding judgeRefusals caseRefusals witnessRefusals claimRefusals derivedRefusals rulesIn those ofCase no1 no2 no3 no4 no5 no6 no7 no8 no9 no10 no11 no12 no13 no14 no15 no16
   own-rows = refl
 
-  ledger-rows : those ofCase false (judgeTable c t r l) ≡ ledgerTable t r l (anchorOf c) (nullifierOf 1 c) (nullifierOf 2 c)
-  unfolding judgeTable ledgerTable rowsIn those ofCase no1 no2 no3 no4 no5 no6 no7 no8 no9 no10 no11 no12 no13 no14 no15 no16
+  ledger-rows : those ofCase false (judgeRefusals c t r l) ≡ ledgerRefusals t r l (anchorOf c) (nullifierOf 1 c) (nullifierOf 2 c)
+  unfolding judgeRefusals ledgerRefusals rulesIn those ofCase no1 no2 no3 no4 no5 no6 no7 no8 no9 no10 no11 no12 no13 no14 no15 no16
   ledger-rows = refl
 
   -- THE LAW of the two answers
-  pub answer-lower : answerOf c t r l ≡ lower (first (caseTable c)) (first (ledgerTable t r l (anchorOf c) (nullifierOf 1 c) (nullifierOf 2 c)))
+  pub answer-lower : answerOf c t r l ≡ lower (first (caseRefusals c)) (first (ledgerRefusals t r l (anchorOf c) (nullifierOf 1 c) (nullifierOf 2 c)))
   unfolding answerOf
   answer-lower =
-      first-lower ofCase (judgeTable c t r l) rises numbers ∙ ap₂ (λ (a b : List Row). lower (first a) (first b)) own-rows ledger-rows
+      first-lower ofCase (judgeRefusals c t r l) rises numbers ∙ ap₂ (λ (a b : List Rule). lower (first a) (first b)) own-rows ledger-rows
 
   -- the half that needs no hash
-  abbrev front : List Row
-  front = rowsIn (frontTable c t r l)
+  abbrev front : List Rule
+  front = rulesIn (frontRefusals c t r l)
 
   pub front-numbers : numbered front ≡ true
-  unfolding frontTable rowsIn numbered no1 no2 no3 no4 no5 no6 no7 no8
+  unfolding frontRefusals rulesIn numbered no1 no2 no3 no4 no5 no6 no7 no8
   front-numbers = refl
 
   front-rises : neverFalls front ≡ true
-  unfolding frontTable rowsIn neverFalls no1 no2 no3 no4 no5 no6 no7 no8
+  unfolding frontRefusals rulesIn neverFalls no1 no2 no3 no4 no5 no6 no7 no8
   front-rises = refl
 
-  front-own : those ofCase true front ≡ rowsIn (publicTable c)
-  unfolding frontTable publicTable rowsIn those ofCase no1 no2 no3 no4 no5 no6 no7 no8
+  front-own : those ofCase true front ≡ rulesIn (publicRefusals c)
+  unfolding frontRefusals publicRefusals rulesIn those ofCase no1 no2 no3 no4 no5 no6 no7 no8
   front-own = refl
 
-  front-ledger : those ofCase false front ≡ ledgerTable t r l (anchorOf c) (nullifierOf 1 c) (nullifierOf 2 c)
-  unfolding frontTable ledgerTable rowsIn those ofCase no1 no2 no3 no4 no5 no6 no7 no8
+  front-ledger : those ofCase false front ≡ ledgerRefusals t r l (anchorOf c) (nullifierOf 1 c) (nullifierOf 2 c)
+  unfolding frontRefusals ledgerRefusals rulesIn those ofCase no1 no2 no3 no4 no5 no6 no7 no8
   front-ledger = refl
 
-  pub front-lower : first front ≡ lower (first (rowsIn (publicTable c))) (first (ledgerTable t r l (anchorOf c) (nullifierOf 1 c) (nullifierOf 2 c)))
-  front-lower = first-lower ofCase front front-rises front-numbers ∙ ap₂ (λ (a b : List Row). lower (first a) (first b)) front-own front-ledger
+  pub front-lower : first front ≡ lower (first (rulesIn (publicRefusals c))) (first (ledgerRefusals t r l (anchorOf c) (nullifierOf 1 c) (nullifierOf 2 c)))
+  front-lower = first-lower ofCase front front-rises front-numbers ∙ ap₂ (λ (a b : List Rule). lower (first a) (first b)) front-own front-ledger
 
-  pub halves : judgeTable c t r l ≡ rowsIn (frontTable c t r l ++ witnessTable c)
-  unfolding judgeTable frontTable witnessTable claimRefusals derivedRefusals
+  pub halves : judgeRefusals c t r l ≡ rulesIn (frontRefusals c t r l ++ witnessRefusals c)
+  unfolding judgeRefusals frontRefusals witnessRefusals claimRefusals derivedRefusals
   halves = refl

@@ -11,15 +11,15 @@ use lib.IntN.{natAbs}
 use lib.ListN.{length}
 use Rattle.octets.specs.Parts.{same}
 use Rattle.units.specs.Limits.{maxMoney}
-use Rattle.refusals.specs.Table.{None, rowsIn, first}
-use Rattle.refusals.proofs.TableLaws.{by-test, first-none}
+use Rattle.refusals.specs.Rules.{None, rulesIn, first}
+use Rattle.refusals.proofs.RuleLaws.{by-test, first-none}
 use Rattle.casefile.specs.Fields.{vpubOldOf, vpubNewOf, nullifierOf}
-use Rattle.statement.specs.CaseTable.{bothPublic, aboveMoney, no1, no4, no5, no7}
+use Rattle.statement.specs.CaseRefusals.{bothPublic, aboveMoney, no1, no4, no5, no7}
 use Rattle.ledger.specs.declared.Ledger.{Ledger}
 use Rattle.ledger.specs.Rows.{among}
 use Rattle.ledger.specs.Ledgers.{mostNullifiers, roomIn, spentRows, damaged, no2, no3, no6, no8, Ready}
 use Rattle.ledger.proofs.Soundness.{undamaged, among-found, at-most}
-use Rattle.judge.specs.Judging.{frontTable}
+use Rattle.judge.specs.Judging.{frontRefusals}
 use Rattle.judge.proofs.Halves.{front-numbers}
 
 -- what passing that half says
@@ -33,10 +33,10 @@ record Passed (c t r : List ℕ) (l : Ledger) : Type 0 where
   first-new : among (nullifierOf 1 c) (spentRows t l) ≡ false
   second-new : among (nullifierOf 2 c) (spentRows t l) ≡ false
 
-passed : (c t r : List ℕ) (l : Ledger) → first (rowsIn (frontTable c t r l)) .number ≡ 0 → Passed c t r l
-unfolding None frontTable rowsIn no1 no2 no3 no4 no5 no6 no7 no8
+passed : (c t r : List ℕ) (l : Ledger) → first (rulesIn (frontRefusals c t r l)) .number ≡ 0 → Passed c t r l
+unfolding None frontRefusals rulesIn no1 no2 no3 no4 no5 no6 no7 no8
 passed c t r l h =
-    let n = first-none (rowsIn (frontTable c t r l)) (front-numbers c t r l) h in
+    let n = first-none (rulesIn (frontRefusals c t r l)) (front-numbers c t r l) h in
     record {
       sound = n .1 .0;
       roomy = n .1 .1 .0;
@@ -58,7 +58,7 @@ moves old new b o n =
     (λ e. let z : old ≡ 0 = eqb-true old 0 e in omega arith)
     (λ e. let z : new ≡ 0 = eqb-true new 0 (not-false (eqb new 0) (sym (ap (λ (x : Bool). not x && not (eqb new 0)) e) ∙ b)) in omega arith)
 
-pub ready : (c t r : List ℕ) (l : Ledger) → first (rowsIn (frontTable c t r l)) .number ≡ 0
+pub ready : (c t r : List ℕ) (l : Ledger) → first (rulesIn (frontRefusals c t r l)) .number ≡ 0
     → Ready t l (nullifierOf 1 c) (nullifierOf 2 c) (vpubOldOf c) (vpubNewOf c)
 unfolding spentRows
 ready c t r l h =

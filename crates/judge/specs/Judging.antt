@@ -5,55 +5,55 @@ use Prim.Native.Nat.{ℕ}
 use mathlib.Core.Bool.{cond}
 use mathlib.Core.List.{List, [], _∷_}
 use Rattle.refusals.specs.declared.Answer.{Answer}
-use Rattle.refusals.specs.Table.{Row, rowsIn, first, isAccepted}
+use Rattle.refusals.specs.Rules.{Rule, rulesIn, first, isAccepted}
 use Rattle.casefile.specs.Fields.{vpubOldOf, vpubNewOf, anchorOf, nullifierOf, commitmentOf}
-use Rattle.statement.specs.CaseTable.{no1, no4, no5, no7, no9, no10, no11, no12, no13, no14, no15, no16}
+use Rattle.statement.specs.CaseRefusals.{no1, no4, no5, no7, no9, no10, no11, no12, no13, no14, no15, no16}
 use Rattle.ledger.specs.declared.Ledger.{Ledger}
 use Rattle.ledger.specs.declared.Answered.{Answered}
-use Rattle.ledger.specs.Rows.{entered}
+use Rattle.ledger.specs.Rows.{tableWithTwo}
 use Rattle.ledger.specs.Ledgers.{no2, no3, no6, no8, enteredOf}
-use Rattle.ledgerbytes.specs.Keeping.{written}
+use Rattle.ledgerbytes.specs.LedgerBytes.{bufferAfterWrite}
 
--- the rows of each number, in the order of the numbers
-unfoldable pub judgeTable : List ℕ → List ℕ → List ℕ → Ledger → List Row
-judgeTable c t r l =
-    rowsIn
-    (no1 c
-    ∷ no2 t r l
-    ∷ no3 t l
-    ∷ no4 c
-    ∷ no5 c
-    ∷ no6 r l (anchorOf c)
-    ∷ no7 c
-    ∷ no8 t l (nullifierOf 1 c) (nullifierOf 2 c)
-    ∷ no9 c
-    ∷ no10 c
-    ∷ no11 c
-    ∷ no12 c
-    ∷ no13 c
-    ∷ no14 c
-    ∷ no15 c
-    ∷ no16 c
+-- THE TABLE OF REFUSALS, in the order of the numbers. i is 1 or 2, the place where one is told
+unfoldable pub judgeRefusals : List ℕ → List ℕ → List ℕ → Ledger → List Rule
+judgeRefusals c t r l =
+    rulesIn
+    (no1 c  -- the case is not 4,210 bytes long
+    ∷ no2 t r l  -- the ledger is damaged
+    ∷ no3 t l  -- fewer than two free nullifier rows
+    ∷ no4 c  -- both public values are nonzero
+    ∷ no5 c  -- a public value is above all money: 1 the old, 2 the new
+    ∷ no6 r l (anchorOf c)  -- the anchor is not on the roll
+    ∷ no7 c  -- the two nullifiers are equal
+    ∷ no8 t l (nullifierOf 1 c) (nullifierOf 2 c)  -- nullifier i is in the table
+    ∷ no9 c  -- key i has a top bit or position i is no leaf; place 3: phi has a top bit
+    ∷ no10 c  -- old note i has a value, and its path does not end at the anchor
+    ∷ no11 c  -- what goes in is not what comes out
+    ∷ no12 c  -- nullifier i is not that of key i and rho i
+    ∷ no13 c  -- a_pk i is not the address of key i
+    ∷ no14 c  -- tag i is wrong
+    ∷ no15 c  -- new rho i is wrong
+    ∷ no16 c  -- commitment i is wrong
     ∷ [])
 
 -- its first half, which needs no hash
-unfoldable pub frontTable : List ℕ → List ℕ → List ℕ → Ledger → List (List Row)
-frontTable c t r l =
+unfoldable pub frontRefusals : List ℕ → List ℕ → List ℕ → Ledger → List (List Rule)
+frontRefusals c t r l =
     no1 c ∷ no2 t r l ∷ no3 t l ∷ no4 c ∷ no5 c ∷ no6 r l (anchorOf c) ∷ no7 c ∷ no8 t l (nullifierOf 1 c) (nullifierOf 2 c) ∷ []
 
 unfoldable pub answerOf : List ℕ → List ℕ → List ℕ → Ledger → Answer
-answerOf c t r l = first (judgeTable c t r l)
+answerOf c t r l = first (judgeRefusals c t r l)
 
 -- an accepted case is entered; a refused one leaves everything as it was
-unfoldable pub ledgerAfter : List ℕ → List ℕ → List ℕ → Ledger → Ledger
-ledgerAfter c t r l = cond (isAccepted (answerOf c t r l)) (enteredOf l (commitmentOf 1 c) (commitmentOf 2 c) (vpubOldOf c) (vpubNewOf c)) l
+unfoldable pub ledgerAfterCase : List ℕ → List ℕ → List ℕ → Ledger → Ledger
+ledgerAfterCase c t r l = cond (isAccepted (answerOf c t r l)) (enteredOf l (commitmentOf 1 c) (commitmentOf 2 c) (vpubOldOf c) (vpubNewOf c)) l
 
-unfoldable pub tableAfter : List ℕ → List ℕ → List ℕ → Ledger → List ℕ
-tableAfter c t r l = cond (isAccepted (answerOf c t r l)) (entered (l .nullifiers) t (nullifierOf 1 c) (nullifierOf 2 c)) t
+unfoldable pub tableAfterCase : List ℕ → List ℕ → List ℕ → Ledger → List ℕ
+tableAfterCase c t r l = cond (isAccepted (answerOf c t r l)) (tableWithTwo (l .nullifiers) t (nullifierOf 1 c) (nullifierOf 2 c)) t
 
 unfoldable pub judgedOf : List ℕ → List ℕ → List ℕ → Ledger → Answered
-judgedOf c t r l = record { answer = answerOf c t r l; ledger = ledgerAfter c t r l }
+judgedOf c t r l = record { answer = answerOf c t r l; ledger = ledgerAfterCase c t r l }
 
 -- a ledger that is kept as bytes s: where the answer a accepts, they are those of the ledger l that comes after
 unfoldable pub keptAfter : Answer → Ledger → List ℕ → List ℕ
-keptAfter a l s = cond (isAccepted a) (written l s) s
+keptAfter a l s = cond (isAccepted a) (bufferAfterWrite l s) s

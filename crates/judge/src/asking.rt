@@ -6,21 +6,24 @@ use crate::roll::stands_on;
 use crate::table::is_rising;
 use crate::table::search;
 use ledger::Found;
+use ledger::MOST_ANCHORS;
+use ledger::MOST_NULLIFIERS;
 use ledgerbytes::Counts;
 use refusals::Answer;
+use units::ALL_MONEY;
 use units::Which;
 ghost use mathlib.Core.Path.{_≡_};
 ghost use mathlib.Core.Bool.{true};
 ghost use Prim.Native.Nat.{_*_, _≤_};
 ghost use lib.ListN.{length};
-ghost use Rattle.refusals.specs.Table.{first, rowsIn};
+ghost use Rattle.refusals.specs.Rules.{first, rulesIn};
 ghost use Rattle.units.specs.Pairs.{numberOf};
 ghost use Rattle.casefile.specs.Fields.{hasLength, anchorOf, nullifierOf};
 ghost use Rattle.ledger.specs.Sorted.{rising};
 ghost use Rattle.ledger.specs.Rows.{byteOrder, among};
 ghost use Rattle.ledger.specs.Ledgers.{roomIn, spentRows, damaged, no2, no3, no6, no8};
-ghost use Rattle.ledgerbytes.specs.Keeping.{bare};
-ghost use Rattle.judge.specs.Judging.{frontTable};
+ghost use Rattle.ledgerbytes.specs.LedgerBytes.{bare};
+ghost use Rattle.judge.specs.Judging.{frontRefusals};
 
 // How many rows a lent length holds, and at most so many.
 pub fn room_in(most: usize, len: usize) -> usize
@@ -39,7 +42,7 @@ fn is_damaged(table: &[u8], roll: &[u8], counts: Counts) -> bool
     if n % 2 != 0 {
         return true;
     }
-    if room_in(2048, table.len()) < n {
+    if room_in(MOST_NULLIFIERS, table.len()) < n {
         return true;
     }
     if counts.leaves as usize != n {
@@ -48,10 +51,10 @@ fn is_damaged(table: &[u8], roll: &[u8], counts: Counts) -> bool
     if a == 0 {
         return true;
     }
-    if room_in(1024, roll.len()) < a {
+    if room_in(MOST_ANCHORS, roll.len()) < a {
         return true;
     }
-    if (n as u64) / 2 * 2100000000000000 < counts.pool.size() {
+    if (n as u64) / 2 * ALL_MONEY < counts.pool.size() {
         return true;
     }
     !is_rising(table, n)
@@ -72,7 +75,7 @@ pub fn sound(table: &[u8], roll: &[u8], counts: Counts) -> Answer
 fn has_room(table: &[u8], counts: Counts) -> Answer
     ensures { λ r. ⌜ r ≡ first (no3 (now (table .entry)) (bare counts)) ⌝ }
 {
-    let room = room_in(2048, table.len());
+    let room = room_in(MOST_NULLIFIERS, table.len());
     if room < 2 {
         return Answer::refused(3, 0);
     }
@@ -131,7 +134,7 @@ fn are_unspent(table: &[u8], counts: Counts, case: &[u8]) -> Answer
 // for after 3, and counts before 6 or before 8. For this crate alone, which has asked for the length.
 pub fn ask(table: &[u8], roll: &[u8], counts: Counts, case: &[u8]) -> Answer
     requires { ⌜ hasLength (now case) ≡ true ⌝ }
-    ensures { λ r. ⌜ r ≡ first (rowsIn (frontTable (now (case .entry)) (now (table .entry)) (now (roll .entry)) (bare counts))) ⌝ }
+    ensures { λ r. ⌜ r ≡ first (rulesIn (frontRefusals (now (case .entry)) (now (table .entry)) (now (roll .entry)) (bare counts))) ⌝ }
 {
     let a2 = sound(table, roll, counts);
     if !a2.is_accepted() {

@@ -5,7 +5,7 @@ use crate::table::enter_two;
 use ledger::Ledger;
 use units::Amount;
 ghost use mathlib.Core.Path.{_≡_};
-ghost use Rattle.ledger.specs.Rows.{entered};
+ghost use Rattle.ledger.specs.Rows.{tableWithTwo};
 ghost use Rattle.ledger.specs.Ledgers.{enteredOf, Ready};
 
 // Enters what an accepted case brings: the table's bytes change in place, the rest comes back. For this
@@ -22,7 +22,7 @@ pub fn enter(
 ) -> Ledger
     requires { ⌜ Ready (now table) ledger (now one) (now two) (old .0) (new .0) ⌝ }
     ensures { λ r. ⌜ r ≡ enteredOf ledger commitment1 commitment2 (old .0) (new .0) ⌝ }
-    ensures { λ _. ⌜ now (table .exit) ≡ entered (ledger .nullifiers) (now (table .entry)) (now (one .entry)) (now (two .entry)) ⌝ }
+    ensures { λ _. ⌜ now (table .exit) ≡ tableWithTwo (ledger .nullifiers) (now (table .entry)) (now (one .entry)) (now (two .entry)) ⌝ }
 {
     let n = ledger.nullifiers;
     let a = ledger.anchors;

@@ -14,17 +14,18 @@ ghost use mathlib.Core.Path.{_≡_};
 ghost use Prim.Native.Nat.{_+_, _*_, _<_};
 ghost use lib.ListN.{length};
 ghost use Rattle.octets.specs.Parts.{pasted};
-ghost use Rattle.refusals.specs.Table.{first};
+ghost use Rattle.refusals.specs.Rules.{first};
 ghost use Rattle.casefile.specs.Fields.{vpubOldOf, vpubNewOf, nullifierOf, commitmentOf};
 ghost use Rattle.tree.specs.Record.{recordRoot};
-ghost use Rattle.ledger.specs.Rows.{entered as enteredRows};
-ghost use Rattle.ledger.specs.Ledgers.{mostAnchors, roomIn, enteredOf, Ready, closeTable, closedOf, rollAfterClose, startOf, openTable, openedOf, rollAfterOpen};
-ghost use Rattle.ledgerbytes.specs.Keeping.{countsOf, bare, ledgerOf};
-ghost use Rattle.judge.specs.Judging.{answerOf, ledgerAfter, judgedOf, tableAfter, keptAfter};
+ghost use Rattle.ledger.specs.Rows.{tableWithTwo as enteredRows};
+ghost use Rattle.ledger.specs.Ledgers.{mostAnchors, roomIn, enteredOf, Ready, closeRefusals, closedOf, rollAfterClose, emptyLedger, openRefusals, openedOf, rollAfterOpen};
+ghost use Rattle.ledgerbytes.specs.LedgerBytes.{countsOf, bare, ledgerOf};
+ghost use Rattle.judge.specs.Judging.{answerOf, ledgerAfterCase, judgedOf, tableAfterCase, keptAfter};
 use asking::room_in;
 use asking::sound;
 use ledger::Answered;
 use ledger::Ledger;
+use ledger::MOST_ANCHORS;
 use ledger::Pool;
 use ledgerbytes::Counts;
 use refusals::Answer;
@@ -35,7 +36,7 @@ use units::Which;
 
 // A ledger with no nullifier and no leaf, and so many anchors.
 fn start(anchors: usize) -> Ledger
-    ensures { λ r. ⌜ r ≡ startOf anchors ⌝ }
+    ensures { λ r. ⌜ r ≡ emptyLedger anchors ⌝ }
 {
     Ledger {
         nullifiers: 0,
@@ -47,11 +48,11 @@ fn start(anchors: usize) -> Ledger
 
 // Opens a fresh ledger. The table needs no byte of its own; the roll gets the empty tree's root.
 pub fn open(roll: &mut [u8]) -> Answered
-    ensures { λ r. ⌜ r .answer ≡ first (openTable (now (roll .entry))) ⌝ }
+    ensures { λ r. ⌜ r .answer ≡ first (openRefusals (now (roll .entry))) ⌝ }
     ensures { λ r. ⌜ r .ledger ≡ openedOf (now (roll .entry)) ⌝ }
     ensures { λ _. ⌜ now (roll .exit) ≡ rollAfterOpen (now (roll .entry)) ⌝ }
 {
-    if room_in(1024, roll.len()) == 0 {
+    if room_in(MOST_ANCHORS, roll.len()) == 0 {
         return Answered {
             answer: Answer::refused(1, 0),
             ledger: start(0),
@@ -80,13 +81,13 @@ fn counts_of(ledger: Ledger) -> Counts
 
 // Whether a block can be closed.
 fn closing(table: &[u8], roll: &[u8], counts: Counts) -> Answer
-    ensures { λ r. ⌜ r ≡ first (closeTable (now (table .entry)) (now (roll .entry)) (bare counts)) ⌝ }
+    ensures { λ r. ⌜ r ≡ first (closeRefusals (now (table .entry)) (now (roll .entry)) (bare counts)) ⌝ }
 {
     let a2 = sound(table, roll, counts);
     if !a2.is_accepted() {
         return a2;
     }
-    if room_in(1024, roll.len()) <= counts.anchors {
+    if room_in(MOST_ANCHORS, roll.len()) <= counts.anchors {
         return Answer::refused(3, 0);
     }
     Answer::accepted()
@@ -109,7 +110,7 @@ fn closed(roll: &mut [u8], ledger: Ledger) -> Ledger
 
 // Closes a block.
 pub fn close(table: &[u8], roll: &mut [u8], ledger: Ledger) -> Answered
-    ensures { λ r. ⌜ r .answer ≡ first (closeTable (now (table .entry)) (now (roll .entry)) ledger) ⌝ }
+    ensures { λ r. ⌜ r .answer ≡ first (closeRefusals (now (table .entry)) (now (roll .entry)) ledger) ⌝ }
     ensures { λ r. ⌜ r .ledger ≡ closedOf (now (table .entry)) (now (roll .entry)) ledger ⌝ }
     ensures { λ _. ⌜ now (roll .exit) ≡ rollAfterClose (now (table .entry)) (now (roll .entry)) ledger ⌝ }
 {
@@ -126,9 +127,9 @@ pub fn close(table: &[u8], roll: &mut [u8], ledger: Ledger) -> Answered
 
 // The same on a ledger that is kept as bytes, of which a refusal reads the counts alone.
 pub fn close_kept(table: &[u8], roll: &mut [u8], kept: &mut [u8]) -> Answer
-    ensures { λ r. ⌜ r ≡ first (closeTable (now (table .entry)) (now (roll .entry)) (ledgerOf (now (kept .entry)))) ⌝ }
+    ensures { λ r. ⌜ r ≡ first (closeRefusals (now (table .entry)) (now (roll .entry)) (ledgerOf (now (kept .entry)))) ⌝ }
     ensures { λ _. ⌜ now (roll .exit) ≡ rollAfterClose (now (table .entry)) (now (roll .entry)) (ledgerOf (now (kept .entry))) ⌝ }
-    ensures { λ _. ⌜ now (kept .exit) ≡ keptAfter (first (closeTable (now (table .entry)) (now (roll .entry)) (ledgerOf (now (kept .entry))))) (closedOf (now (table .entry)) (now (roll .entry)) (ledgerOf (now (kept .entry)))) (now (kept .entry)) ⌝ }
+    ensures { λ _. ⌜ now (kept .exit) ≡ keptAfter (first (closeRefusals (now (table .entry)) (now (roll .entry)) (ledgerOf (now (kept .entry))))) (closedOf (now (table .entry)) (now (roll .entry)) (ledgerOf (now (kept .entry)))) (now (kept .entry)) ⌝ }
 {
     let a = closing(table, &*roll, ledgerbytes::read_counts(&*kept));
     if !a.is_accepted() {
@@ -182,7 +183,7 @@ fn answered(case: &[u8], table: &[u8], roll: &[u8], counts: Counts) -> Answer
 // Judges a case; an accepted one is entered.
 pub fn judge(case: &[u8], table: &mut [u8], roll: &[u8], ledger: Ledger) -> Answered
     ensures { λ r. ⌜ r ≡ judgedOf (now (case .entry)) (now (table .entry)) (now (roll .entry)) ledger ⌝ }
-    ensures { λ _. ⌜ now (table .exit) ≡ tableAfter (now (case .entry)) (now (table .entry)) (now (roll .entry)) ledger ⌝ }
+    ensures { λ _. ⌜ now (table .exit) ≡ tableAfterCase (now (case .entry)) (now (table .entry)) (now (roll .entry)) ledger ⌝ }
 {
     let answer = answered(case, &*table, roll, counts_of(ledger));
     if !answer.is_accepted() {
@@ -198,8 +199,8 @@ pub fn judge(case: &[u8], table: &mut [u8], roll: &[u8], ledger: Ledger) -> Answ
 // The same on a ledger that is kept as bytes, of which a refusal reads the counts alone.
 pub fn judge_kept(case: &[u8], table: &mut [u8], roll: &[u8], kept: &mut [u8]) -> Answer
     ensures { λ r. ⌜ r ≡ answerOf (now (case .entry)) (now (table .entry)) (now (roll .entry)) (ledgerOf (now (kept .entry))) ⌝ }
-    ensures { λ _. ⌜ now (table .exit) ≡ tableAfter (now (case .entry)) (now (table .entry)) (now (roll .entry)) (ledgerOf (now (kept .entry))) ⌝ }
-    ensures { λ _. ⌜ now (kept .exit) ≡ keptAfter (answerOf (now (case .entry)) (now (table .entry)) (now (roll .entry)) (ledgerOf (now (kept .entry)))) (ledgerAfter (now (case .entry)) (now (table .entry)) (now (roll .entry)) (ledgerOf (now (kept .entry)))) (now (kept .entry)) ⌝ }
+    ensures { λ _. ⌜ now (table .exit) ≡ tableAfterCase (now (case .entry)) (now (table .entry)) (now (roll .entry)) (ledgerOf (now (kept .entry))) ⌝ }
+    ensures { λ _. ⌜ now (kept .exit) ≡ keptAfter (answerOf (now (case .entry)) (now (table .entry)) (now (roll .entry)) (ledgerOf (now (kept .entry)))) (ledgerAfterCase (now (case .entry)) (now (table .entry)) (now (roll .entry)) (ledgerOf (now (kept .entry)))) (now (kept .entry)) ⌝ }
 {
     let answer = answered(case, &*table, roll, ledgerbytes::read_counts(&*kept));
     if !answer.is_accepted() {

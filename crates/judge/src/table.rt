@@ -13,7 +13,7 @@ ghost use Prim.Native.Nat.{_+_, _*_, _≤_};
 ghost use lib.ListN.{length};
 ghost use Rattle.octets.specs.Rows.{rowsOf};
 ghost use Rattle.ledger.specs.Sorted.{placeOf, isGap, rising, find};
-ghost use Rattle.ledger.specs.Rows.{byteOrder, shifted, withRow, entered, Fresh};
+ghost use Rattle.ledger.specs.Rows.{byteOrder, shifted, withRow, tableWithTwo, Fresh};
 
 // Whether the first count rows strictly rise. For this crate alone, which tests the count before.
 pub fn is_rising(table: &[u8], count: usize) -> bool
@@ -103,7 +103,7 @@ pub fn enter_two(table: &mut [u8], count: usize, a: &[u8; 32], b: &[u8; 32])
     requires { ⌜ (count + 2) * 32 ≤ length (now table) ⌝ }
     requires { ⌜ rising byteOrder (rowsOf count (now table)) ≡ true ⌝ }
     requires { ⌜ Fresh count (now table) (now a) (now b) ⌝ }
-    ensures { λ _. ⌜ now (table .exit) ≡ entered count (now (table .entry)) (now (a .entry)) (now (b .entry)) ⌝ }
+    ensures { λ _. ⌜ now (table .exit) ≡ tableWithTwo count (now (table .entry)) (now (a .entry)) (now (b .entry)) ⌝ }
 {
     enter_one(&mut *table, count, a);
     enter_one(table, count + 1, b);

@@ -16,7 +16,7 @@ use Rattle.tree.specs.Record.{withLeafOf, grown}
 use Rattle.tree.proofs.Grown.{with-leaf, grown-append}
 use Rattle.ledger.specs.declared.Ledger.{Ledger}
 use Rattle.ledger.specs.Sorted.{rising, insert}
-use Rattle.ledger.specs.Rows.{byteOrder, entered, among}
+use Rattle.ledger.specs.Rows.{byteOrder, tableWithTwo, among}
 use Rattle.ledger.specs.Ledgers.{mostNullifiers, spentRows, enteredOf, Ready}
 use Rattle.ledger.proofs.ByteOrder.{byte-total}
 use Rattle.ledger.proofs.Members.{insert-member}
@@ -38,7 +38,7 @@ module _ (t r : List ℕ) (l : Ledger) (a b x y : List ℕ) (old new : ℕ) (s :
   after = enteredOf l x y old new
 
   abbrev pub table : List ℕ
-  table = entered (l .nullifiers) t a b
+  table = tableWithTwo (l .nullifiers) t a b
 
   space : (l .nullifiers + 2) * 32 ≤ length t
   space = within (l .nullifiers + 2) mostNullifiers (length t) (g .room)

@@ -12,7 +12,7 @@ use Rattle.octets.specs.Parts.{pasted}
 use Rattle.octets.specs.Rows.{rowsOf, flat}
 use Rattle.octets.proofs.PartLaws.{pasted-is}
 use Rattle.octets.proofs.RowLaws.{rows-length, rows-at, take-rows, drop-rows, flat-append, flat-rows}
-use Rattle.ledger.specs.Sorted.{row, isLess, isEqual, placeOf, isGap, rising, find}
+use Rattle.ledger.specs.Sorted.{rowNumbered, isLess, isEqual, placeOf, isGap, rising, find}
 use Rattle.ledger.specs.Rows.{byteOrder, rowAt, shifted, withRow, among}
 use Rattle.ledger.specs.declared.Order.the-variants.{Less, Equal, Greater}
 use Rattle.ledger.specs.declared.Found.the-variants.{At, Gap}
@@ -27,12 +27,12 @@ rising-turn n i t h =
 
 -- where a row stands among the first n, or would go, by the rows beside that place
 module _ (n k : ℕ) (t r : List ℕ) (rises : rising byteOrder (rowsOf n t) ≡ true) where
-  pub stands-at : k < n → byteOrder r (rowAt t k) ≡ Equal → At (row k) ≡ find byteOrder r (rowsOf n t)
+  pub stands-at : k < n → byteOrder r (rowAt t k) ≡ Equal → At (rowNumbered k) ≡ find byteOrder r (rowsOf n t)
   stands-at h e =
       sym (find-at byteOrder byte-total r [] (rowsOf n t) k rises (omega (arith, rows-length n t)) (rw (rows-at n k t h) e))
 
   pub goes-at : k ≤ n → ((j : ℕ) → suc j ≡ k → byteOrder r (rowAt t j) ≡ Greater) → (k < n → byteOrder r (rowAt t k) ≡ Less)
-      → Gap (row k) ≡ find byteOrder r (rowsOf n t)
+      → Gap (rowNumbered k) ≡ find byteOrder r (rowsOf n t)
   goes-at h lo hi =
       let l : length (rowsOf n t) ≡ n = rows-length n t in
       sym

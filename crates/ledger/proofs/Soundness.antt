@@ -12,7 +12,7 @@ use lib.IntN.{natAbs}
 use lib.ListN.{length, getD}
 use Rattle.octets.specs.Parts.{same}
 use Rattle.octets.proofs.PartLaws.{same-eq, same-refl}
-use Rattle.refusals.proofs.TableLaws.{by-test}
+use Rattle.refusals.proofs.RuleLaws.{by-test}
 use Rattle.units.specs.Limits.{maxMoney}
 use Rattle.ledger.specs.declared.Ledger.{Ledger}
 use Rattle.ledger.specs.Sorted.{rising, find, isGap}

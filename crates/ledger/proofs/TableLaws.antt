@@ -11,7 +11,7 @@ use Rattle.octets.specs.Parts.{same}
 use Rattle.octets.specs.Rows.{rowsOf, flat, Long}
 use Rattle.octets.proofs.RowLaws.{rows-length, rows-long, rows-flat-on, flat-length}
 use Rattle.ledger.specs.Sorted.{isGap, rising, find, insert}
-use Rattle.ledger.specs.Rows.{byteOrder, withRow, entered, Fresh}
+use Rattle.ledger.specs.Rows.{byteOrder, withRow, tableWithTwo, Fresh}
 use Rattle.ledger.specs.declared.Order.{Order}
 use Rattle.ledger.specs.declared.Order.the-variants.{Less, Equal, Greater}
 use Rattle.ledger.proofs.ByteOrder.{byte-total, differ-order}
@@ -64,8 +64,8 @@ with-is : (n : ℕ) (t r : List ℕ) → withRow n t r ≡ flat (insert byteOrde
 unfolding withRow
 with-is n t r = refl
 
-entered-is : (n : ℕ) (t a b : List ℕ) → entered n t a b ≡ flat (insert byteOrder b (insert byteOrder a (rowsOf n t))) ++ drop ((n + 2) * 32) t
-unfolding entered
+entered-is : (n : ℕ) (t a b : List ℕ) → tableWithTwo n t a b ≡ flat (insert byteOrder b (insert byteOrder a (rowsOf n t))) ++ drop ((n + 2) * 32) t
+unfolding tableWithTwo
 entered-is n t a b = refl
 
 -- two rows put in, one after the other
@@ -87,7 +87,7 @@ module _ (n : ℕ) (t a b : List ℕ) (room : (n + 2) * 32 ≤ length t) (long-a
   second-gap = rw first-rows (gap-insert byteOrder byte-total a b (rowsOf n t) (differ-order a b (f .differ)) (f .gap-b))
 
   -- and then both are in
-  pub entered-both : withRow (n + 1) (withRow n t a) b ≡ entered n t a b
+  pub entered-both : withRow (n + 1) (withRow n t a) b ≡ tableWithTwo n t a b
   entered-both =
       let e : n + 1 + 1 ≡ n + 2 = omega arith in
       with-is (n + 1) (withRow n t a) b
@@ -95,41 +95,41 @@ module _ (n : ℕ) (t a b : List ℕ) (room : (n + 2) * 32 ≤ length t) (long-a
 
 -- the table that then is
 module _ (n : ℕ) (t a b : List ℕ) (room : (n + 2) * 32 ≤ length t) (long-a : length a ≡ 32) (long-b : length b ≡ 32) (f : Fresh n t a b) where
-  pub entered-rows : rowsOf (n + 2) (entered n t a b) ≡ insert byteOrder b (insert byteOrder a (rowsOf n t))
+  pub entered-rows : rowsOf (n + 2) (tableWithTwo n t a b) ≡ insert byteOrder b (insert byteOrder a (rowsOf n t))
   entered-rows =
       let e : n + 2 ≡ n + 1 + 1 = omega arith in
       rw (← entered-both n t a b room long-a f, e) (rows-with (n + 1) (withRow n t a) b (second-room n t a b room long-a f) long-b (second-gap n t a b room long-a f) ∙ ap (insert byteOrder b) (first-rows n t a b room long-a f))
 
-  pub entered-length : length (entered n t a b) ≡ length t
+  pub entered-length : length (tableWithTwo n t a b) ≡ length t
   entered-length = rw (← entered-both n t a b room long-a f) (length-with (n + 1) (withRow n t a) b (second-room n t a b room long-a f) long-b (second-gap n t a b room long-a f) ∙ first-length n t a b room long-a f)
 
   -- the bytes from a later row on
-  pub entered-drop : (k : ℕ) → n + 2 ≤ k → drop (k * 32) (entered n t a b) ≡ drop (k * 32) t
+  pub entered-drop : (k : ℕ) → n + 2 ≤ k → drop (k * 32) (tableWithTwo n t a b) ≡ drop (k * 32) t
   entered-drop k h =
       rw (← entered-both n t a b room long-a f)
       (drop-with (n + 1) (withRow n t a) b (second-room n t a b room long-a f) long-b (second-gap n t a b room long-a f) k (omega arith) ∙ drop-with n t a (omega arith) long-a (f .gap-a) k (omega arith))
 
   -- the rows still rise
-  pub entered-rising : rising byteOrder (rowsOf n t) ≡ true → rising byteOrder (rowsOf (n + 2) (entered n t a b)) ≡ true
+  pub entered-rising : rising byteOrder (rowsOf n t) ≡ true → rising byteOrder (rowsOf (n + 2) (tableWithTwo n t a b)) ≡ true
   entered-rising h =
       rw entered-rows (rising-insert byteOrder byte-total b (insert byteOrder a (rowsOf n t)) (rising-insert byteOrder byte-total a (rowsOf n t) h))
 
   -- whether another row stands there has not changed
   pub entered-gap : (r : List ℕ) → same a r ≡ false → same b r ≡ false
-      → isGap (find byteOrder r (rowsOf (n + 2) (entered n t a b))) ≡ isGap (find byteOrder r (rowsOf n t))
+      → isGap (find byteOrder r (rowsOf (n + 2) (tableWithTwo n t a b))) ≡ isGap (find byteOrder r (rowsOf n t))
   entered-gap r ha hb =
       rw entered-rows
       (gap-same byteOrder byte-total b r (insert byteOrder a (rowsOf n t)) (differ-order b r hb) ∙ gap-same byteOrder byte-total a r (rowsOf n t) (differ-order a r ha))
 
 -- two pairs, each of which can be put in: the bytes are the same in either order
 pub either-order : (n : ℕ) (t a b c d : List ℕ) → (n + 4) * 32 ≤ length t → Long (a ∷ b ∷ c ∷ d ∷ []) → Fresh n t a b → Fresh n t c d
-    → entered (n + 2) (entered n t a b) c d ≡ entered (n + 2) (entered n t c d) a b
+    → tableWithTwo (n + 2) (tableWithTwo n t a b) c d ≡ tableWithTwo (n + 2) (tableWithTwo n t c d) a b
 unfolding Long
 either-order n t a b c d room long f g =
     let la = long .0 in
     let lb = long .1 .0 in
     let lc = long .1 .1 .0 in
     let ld = long .1 .1 .1 .0 in
-    entered-is (n + 2) (entered n t a b) c d
+    entered-is (n + 2) (tableWithTwo n t a b) c d
     ∙ rw (entered-rows n t a b (omega arith) la lb f, entered-drop n t a b (omega arith) la lb f (n + 2 + 2) (omega arith), pairs-comm byteOrder byte-total a b c d (rowsOf n t))
-    (sym (entered-is (n + 2) (entered n t c d) a b ∙ rw (entered-rows n t c d (omega arith) lc ld g, entered-drop n t c d (omega arith) lc ld g (n + 2 + 2) (omega arith))))
+    (sym (entered-is (n + 2) (tableWithTwo n t c d) a b ∙ rw (entered-rows n t c d (omega arith) lc ld g, entered-drop n t c d (omega arith) lc ld g (n + 2 + 2) (omega arith))))

@@ -11,7 +11,7 @@ use lib.ListN.{length}
 use Rattle.octets.specs.Parts.{pasted}
 use Rattle.octets.specs.Rows.{rowsOf}
 use Rattle.units.specs.Limits.{maxMoney}
-use Rattle.refusals.specs.Table.{Row, row, rowsIn, first, isAccepted}
+use Rattle.refusals.specs.Rules.{Rule, rule, rulesIn, first, isAccepted}
 use Rattle.nodes.specs.CommitmentTree.{treeRoot}
 use Rattle.tree.specs.Record.{freshOf, grown, recordRoot}
 use Rattle.ledger.specs.declared.Ledger.{Ledger}
@@ -55,23 +55,23 @@ unfoldable pub damaged : List ℕ → List ℕ → Ledger → Bool
 damaged t r l = some (damage t r l)
 
 -- what a ledger refuses of a case's public part: its anchor and its two nullifiers
-unfoldable pub no2 : List ℕ → List ℕ → Ledger → List Row
-no2 t r l = row (damaged t r l) 2 0 ∷ []
+unfoldable pub no2 : List ℕ → List ℕ → Ledger → List Rule
+no2 t r l = rule (damaged t r l) 2 0 ∷ []
 
 -- fewer than two free nullifier rows
-unfoldable pub no3 : List ℕ → Ledger → List Row
-no3 t l = row (ltb (roomIn mostNullifiers (length t)) (l .nullifiers + 2)) 3 0 ∷ []
+unfoldable pub no3 : List ℕ → Ledger → List Rule
+no3 t l = rule (ltb (roomIn mostNullifiers (length t)) (l .nullifiers + 2)) 3 0 ∷ []
 
 -- the anchor is not on the roll
-unfoldable pub no6 : List ℕ → Ledger → List ℕ → List Row
-no6 r l anchor = row (not (among anchor (anchorRows r l))) 6 0 ∷ []
+unfoldable pub no6 : List ℕ → Ledger → List ℕ → List Rule
+no6 r l anchor = rule (not (among anchor (anchorRows r l))) 6 0 ∷ []
 
 -- nullifier i is in the table
-unfoldable pub no8 : List ℕ → Ledger → List ℕ → List ℕ → List Row
-no8 t l one two = row (among one (spentRows t l)) 8 1 ∷ row (among two (spentRows t l)) 8 2 ∷ []
+unfoldable pub no8 : List ℕ → Ledger → List ℕ → List ℕ → List Rule
+no8 t l one two = rule (among one (spentRows t l)) 8 1 ∷ rule (among two (spentRows t l)) 8 2 ∷ []
 
-unfoldable pub ledgerTable : List ℕ → List ℕ → Ledger → List ℕ → List ℕ → List ℕ → List Row
-ledgerTable t r l anchor one two = rowsIn (no2 t r l ∷ no3 t l ∷ no6 r l anchor ∷ no8 t l one two ∷ [])
+unfoldable pub ledgerRefusals : List ℕ → List ℕ → Ledger → List ℕ → List ℕ → List ℕ → List Rule
+ledgerRefusals t r l anchor one two = rulesIn (no2 t r l ∷ no3 t l ∷ no6 r l anchor ∷ no8 t l one two ∷ [])
 
 -- ENTERING an accepted case: both nullifiers, then commitment 1 and commitment 2, then the public values
 unfoldable pub enteredOf : Ledger → List ℕ → List ℕ → ℕ → ℕ → Ledger
@@ -91,29 +91,29 @@ pub record Ready (t : List ℕ) (l : Ledger) (one two : List ℕ) (old new : ℕ
   pub pool : natAbs (l .pool .0) + old + new < 2 ^ 63
 
 -- CLOSING a block: damage, then no free row of the roll; else the current root is the roll's next row
-unfoldable pub closeTable : List ℕ → List ℕ → Ledger → List Row
-closeTable t r l = rowsIn (no2 t r l ∷ (row (leb (roomIn mostAnchors (length r)) (l .anchors)) 3 0 ∷ []) ∷ [])
+unfoldable pub closeRefusals : List ℕ → List ℕ → Ledger → List Rule
+closeRefusals t r l = rulesIn (no2 t r l ∷ (rule (leb (roomIn mostAnchors (length r)) (l .anchors)) 3 0 ∷ []) ∷ [])
 
 unfoldable pub closedOf : List ℕ → List ℕ → Ledger → Ledger
 closedOf t r l =
-    cond (isAccepted (first (closeTable t r l))) (record { nullifiers = l .nullifiers; anchors = l .anchors + 1; tree = l .tree; pool = l .pool }) l
+    cond (isAccepted (first (closeRefusals t r l))) (record { nullifiers = l .nullifiers; anchors = l .anchors + 1; tree = l .tree; pool = l .pool }) l
 
 unfoldable pub rollAfterClose : List ℕ → List ℕ → Ledger → List ℕ
-rollAfterClose t r l = cond (isAccepted (first (closeTable t r l))) (pasted (l .anchors * 32) (recordRoot (l .tree)) r) r
+rollAfterClose t r l = cond (isAccepted (first (closeRefusals t r l))) (pasted (l .anchors * 32) (recordRoot (l .tree)) r) r
 
 -- OPENING: nothing spent, no leaf, nothing in the pool, and the root of the tree with no leaf for an anchor. Where the roll has no row to write it in,
 -- that is refused, and there is no anchor either
-unfoldable pub startOf : ℕ → Ledger
-startOf anchors = record { nullifiers = 0; anchors = anchors; tree = freshOf; pool = record { 0 = pos 0 } }
+unfoldable pub emptyLedger : ℕ → Ledger
+emptyLedger anchors = record { nullifiers = 0; anchors = anchors; tree = freshOf; pool = record { 0 = pos 0 } }
 
 abbrev pub freshLedger : Ledger
-freshLedger = startOf 1
+freshLedger = emptyLedger 1
 
-unfoldable pub openTable : List ℕ → List Row
-openTable r = row (eqb (roomIn mostAnchors (length r)) 0) 1 0 ∷ []
+unfoldable pub openRefusals : List ℕ → List Rule
+openRefusals r = rule (eqb (roomIn mostAnchors (length r)) 0) 1 0 ∷ []
 
 unfoldable pub openedOf : List ℕ → Ledger
-openedOf r = cond (isAccepted (first (openTable r))) freshLedger (startOf 0)
+openedOf r = cond (isAccepted (first (openRefusals r))) freshLedger (emptyLedger 0)
 
 unfoldable pub rollAfterOpen : List ℕ → List ℕ
-rollAfterOpen r = cond (isAccepted (first (openTable r))) (pasted 0 (treeRoot []) r) r
+rollAfterOpen r = cond (isAccepted (first (openRefusals r))) (pasted 0 (treeRoot []) r) r

@@ -66,6 +66,11 @@ impl Pool {
     }
 }
 
+// The most rows that are used of a nullifier table and of an anchor roll, however long they are lent.
+pub const MOST_NULLIFIERS: usize = 2048;
+
+pub const MOST_ANCHORS: usize = 1024;
+
 // What a ledger keeps beside its table and its roll.
 pub struct Ledger {
     pub nullifiers: usize,

@@ -17,7 +17,7 @@ use Rattle.octets.proofs.ByteLaws.{field-below, field-again}
 use Rattle.octets.proofs.NumberLaws.{little-bytes, little-bytes-length}
 use Rattle.octets.proofs.PartLaws.{field-length, field-left, field-right, field-all, field-join}
 use Rattle.ledger.specs.declared.Ledger.{Ledger}
-use Rattle.ledgerbytes.specs.Keeping.{signedOf, bitsOf, ledgerOf, headOf, bytesOf, isWhole, Fits}
+use Rattle.ledgerbytes.specs.LedgerBytes.{signedOf, bitsOf, ledgerOf, headOf, ledgerBytes, isWhole, Fits}
 
 pub signed-bits : (z : ℤ) → mag z < 2 ^ 63 → signedOf (bitsOf z) ≡ z
 unfolding signedOf bitsOf
@@ -70,8 +70,8 @@ module _ (a b c d e : List ℕ) (ha : length a ≡ 8) (hb : length b ≡ 8) (hc 
   part-5 = last 28 960 (a ++ b ++ c ++ d) e four he
 
 -- a ledger that fits takes 988 bytes
-pub bytes-long : (l : Ledger) → Fits l → length (bytesOf l) ≡ 988
-unfolding bytesOf headOf
+pub bytes-long : (l : Ledger) → Fits l → length (ledgerBytes l) ≡ 988
+unfolding ledgerBytes headOf
 bytes-long l h =
     let n = littleBytes 8 (l .nullifiers) in
     let a = littleBytes 8 (l .anchors) in
@@ -80,8 +80,8 @@ bytes-long l h =
     omega (arith, length-append (n ++ a ++ p ++ v) (l .tree .nodes), four n a p v (l .tree .nodes) (little-bytes-length 8 (l .nullifiers)) (little-bytes-length 8 (l .anchors)) (little-bytes-length 8 (bitsOf (l .pool .0))) (little-bytes-length 4 (l .tree .leaves)) (h .nodes), h .nodes)
 
 -- the law
-pub read-written : (l : Ledger) → Fits l → ledgerOf (bytesOf l) ≡ l
-unfolding ledgerOf bytesOf headOf
+pub read-written : (l : Ledger) → Fits l → ledgerOf (ledgerBytes l) ≡ l
+unfolding ledgerOf ledgerBytes headOf
 read-written l h =
     let n = littleBytes 8 (l .nullifiers) in
     let a = littleBytes 8 (l .anchors) in
@@ -128,8 +128,8 @@ module _ (s : List ℕ) (h : Bytes s) where
       }
 
   -- and it is written as the very bytes that it was read from
-  pub written-read : isWhole s ≡ true → bytesOf (ledgerOf s) ≡ s
-  unfolding ledgerOf bytesOf headOf
+  pub written-read : isWhole s ≡ true → ledgerBytes (ledgerOf s) ≡ s
+  unfolding ledgerOf ledgerBytes headOf
   written-read w =
       rw (field-again 0 8 s h, field-again 8 8 s h, bits-signed (little (field 16 8 s)) (field-below 16 8 s h), field-again 16 8 s h, field-again 24 4 s h, field-join 0 8 8 s, field-join 0 16 8 s, field-join 0 24 4 s, field-join 0 28 960 s)
       (ap (λ (n : ℕ). field 0 n s) (sym (eqb-true (length s) 988 w)) ∙ field-all s)

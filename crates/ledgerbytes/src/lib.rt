@@ -5,10 +5,13 @@ ghost use mathlib.Core.Path.{_≡_};
 ghost use Prim.Native.Nat.{_+_, _≤_};
 ghost use Rattle.octets.specs.Parts.{field};
 ghost use Rattle.octets.specs.Numbers.{little};
-ghost use Rattle.ledgerbytes.specs.Keeping.{signedOf, bitsOf, ledgerOf, countsOf, headOf, isWhole, written};
+ghost use Rattle.ledgerbytes.specs.LedgerBytes.{signedOf, bitsOf, ledgerOf, countsOf, headOf, isWhole, bufferAfterWrite};
 use ledger::Ledger;
 use ledger::Pool;
 use tree::Tree;
+
+// How many bytes a ledger has.
+pub const LEDGER_LENGTH: usize = 988;
 
 // A ledger without its record's nodes: all that is asked about before a case is entered or a block closed.
 pub struct Counts {
@@ -46,10 +49,10 @@ fn nodes_in(bytes: &[u8]) -> [u8; 960]
     ensures { λ r. ⌜ r ≡ field 28 960 (now (bytes .entry)) ⌝ }
 {
     let mut nodes = [0u8; 960];
-    if bytes.len() < 988 {
+    if bytes.len() < LEDGER_LENGTH {
         octets::fill(&mut nodes, bytes, 28);
     } else {
-        octets::copy_in(&mut nodes, 0, &bytes[28..988]);
+        octets::copy_in(&mut nodes, 0, &bytes[28..LEDGER_LENGTH]);
     }
     nodes
 }
@@ -135,9 +138,9 @@ fn head(ledger: Ledger) -> [u8; 28]
 // Writes a ledger where the buffer is as long as one, and answers whether it is.
 pub fn write(bytes: &mut [u8], ledger: Ledger) -> bool
     ensures { λ r. ⌜ r ≡ isWhole (now (bytes .entry)) ⌝ }
-    ensures { λ _. ⌜ now (bytes .exit) ≡ written ledger (now (bytes .entry)) ⌝ }
+    ensures { λ _. ⌜ now (bytes .exit) ≡ bufferAfterWrite ledger (now (bytes .entry)) ⌝ }
 {
-    if bytes.len() != 988 {
+    if bytes.len() != LEDGER_LENGTH {
         return false;
     }
     let front = head(ledger);

@@ -142,7 +142,7 @@ pub fn le64(s: &[u8], at: usize) -> u64
 }
 
 // 32 bytes that s has, in one copy of a fixed length.
-fn whole32(s: &[u8], at: usize) -> [u8; 32]
+fn part32_whole(s: &[u8], at: usize) -> [u8; 32]
     requires { ⌜ at + 32 ≤ length (now s) ⌝ }
     ensures { λ r. ⌜ r ≡ field at 32 (now (s .entry)) ⌝ }
 {
@@ -154,7 +154,7 @@ fn whole32(s: &[u8], at: usize) -> [u8; 32]
 }
 
 // 32 bytes of which s may lack some, byte by byte.
-fn ragged32(s: &[u8], at: usize) -> [u8; 32]
+fn part32_padded(s: &[u8], at: usize) -> [u8; 32]
     ensures { λ r. ⌜ r ≡ field at 32 (now (s .entry)) ⌝ }
 {
     let mut r = [0u8; 32];
@@ -169,12 +169,12 @@ pub fn part32(s: &[u8], at: usize) -> [u8; 32]
     ensures { λ r. ⌜ r ≡ field at 32 (now (s .entry)) ⌝ }
 {
     if s.len() < 32 {
-        return ragged32(s, at);
+        return part32_padded(s, at);
     }
     if s.len() - 32 < at {
-        return ragged32(s, at);
+        return part32_padded(s, at);
     }
-    whole32(s, at)
+    part32_whole(s, at)
 }
 
 // Whether two slices have the same bytes, and as many.

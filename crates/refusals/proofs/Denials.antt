@@ -7,7 +7,7 @@ use mathlib.Core.Bool.{Bool, true, false, cond, not, _&&_, _||_, false≢true}
 use mathlib.Core.List.{List, [], _∷_}
 use borrow.Author.Tests.{eqb-true, eq-eqb, ltb-false, le-ltb, leb-false, lt-leb, not-false}
 use lib.Dec.{eqb, leb, ltb}
-use Rattle.refusals.specs.Table.{Row, None}
+use Rattle.refusals.specs.Rules.{Rule, None}
 
 -- the test fails exactly when the clause holds
 abbrev pub Denies : Bool → Type 0 → Type 0
@@ -32,12 +32,12 @@ both {a = true} p q = (λ h. absurd (false≢true (sym h)), λ x. p .1 (x .0))
 both {a = false} p q = (λ h. (p .0 refl, q .0 h), λ x. q .1 (x .1))
 
 -- the test of the first row with that number and place
-unfoldable pub testOf : ℕ → ℕ → List Row → Bool
+unfoldable pub testOf : ℕ → ℕ → List Rule → Bool
 testOf n p [] = false
 testOf n p (r ∷ rs) = cond (eqb (r .number) n && eqb (r .place) p) (r .applies) (testOf n p rs)
 
 -- where no row applies, it fails
-pub fails : (rows : List Row) → None rows → (n p : ℕ) → testOf n p rows ≡ false
+pub fails : (rows : List Rule) → None rows → (n p : ℕ) → testOf n p rows ≡ false
 unfolding testOf None
 fails [] h n p = refl
 fails (r ∷ rs) h n p = go (eqb (r .number) n && eqb (r .place) p) (fails rs (h .1) n p)

@@ -1,4 +1,4 @@
 pub mod Denials
 pub mod SentenceLaws
-pub mod TableLaws
+pub mod RuleLaws
 pub mod TwoTables

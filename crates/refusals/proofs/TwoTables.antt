@@ -10,26 +10,26 @@ use native.Mathlib.Nat.{eq-or-lt-of-le}
 use borrow.Author.Tests.{eqb-true, eqb-false, ne-eqb, not-true, leb-true, leb-false, le-leb, lt-leb}
 use lib.Dec.{leb}
 use Rattle.refusals.specs.declared.Answer.{Answer}
-use Rattle.refusals.specs.Table.{Row, answer, isAccepted, first, numbered, lower, refusesUpTo}
+use Rattle.refusals.specs.Rules.{Rule, answer, isAccepted, first, numbered, lower, refusesUpTo}
 use Rattle.octets.proofs.BoolLaws.{and-both}
-use Rattle.refusals.proofs.TableLaws.{by-test, first-here, first-next, numbered-here, numbered-next}
+use Rattle.refusals.proofs.RuleLaws.{by-test, first-here, first-next, numbered-here, numbered-next}
 
 -- the numbers never fall
-unfoldable pub neverFalls : List Row → Bool
+unfoldable pub neverFalls : List Rule → Bool
 neverFalls [] = true
 neverFalls (r ∷ []) = true
 neverFalls (r ∷ s ∷ rs) = leb (r .number) (s .number) && neverFalls (s ∷ rs)
 
-unfoldable AtLeast : ℕ → List Row → Type 0
+unfoldable AtLeast : ℕ → List Rule → Type 0
 AtLeast n [] = Unit {0}
 AtLeast n (r ∷ rs) = (n ≤ r .number) × AtLeast n rs
 
-less-least : (m n : ℕ) (rs : List Row) → m ≤ n → AtLeast n rs → AtLeast m rs
+less-least : (m n : ℕ) (rs : List Rule) → m ≤ n → AtLeast n rs → AtLeast m rs
 unfolding AtLeast
 less-least m n [] l h = tt
 less-least m n (r ∷ rs) l h = (omega arith, less-least m n rs l (h .1))
 
-rest-least : (r : Row) (rs : List Row) → neverFalls (r ∷ rs) ≡ true → AtLeast (r .number) rs × (neverFalls rs ≡ true)
+rest-least : (r : Rule) (rs : List Rule) → neverFalls (r ∷ rs) ≡ true → AtLeast (r .number) rs × (neverFalls rs ≡ true)
 unfolding neverFalls AtLeast
 rest-least r [] h = (tt, refl)
 rest-least r (s ∷ rs) h =
@@ -69,11 +69,11 @@ lower-accepts a b h =
 
 -- one who asks for himself with an answer in hand: he keeps it where it refuses with a number up to that of every row left, gives up on it where a
 -- row with a lower number refuses, and has it still where none does
-unfoldable pub allFrom : ℕ → List Row → Bool
+unfoldable pub allFrom : ℕ → List Rule → Bool
 allFrom n [] = true
 allFrom n (r ∷ rs) = leb n (r .number) && allFrom n rs
 
-all-first : (n : ℕ) (rs : List Row) → allFrom n rs ≡ true → (isAccepted (first rs) ≡ true) ⊎ (n ≤ first rs .number)
+all-first : (n : ℕ) (rs : List Rule) → allFrom n rs ≡ true → (isAccepted (first rs) ≡ true) ⊎ (n ≤ first rs .number)
 unfolding allFrom first
 all-first n [] h = inl refl
 all-first n (r ∷ rs) h =
@@ -82,11 +82,11 @@ all-first n (r ∷ rs) h =
     (λ e. rw (first-here r rs e) (inr (leb-true n (r .number) (p .0))))
     (λ e. rw (first-next r rs e) (all-first n rs (p .1)))
 
-unfoldable pub allUpTo : ℕ → List Row → Bool
+unfoldable pub allUpTo : ℕ → List Rule → Bool
 allUpTo n [] = true
 allUpTo n (r ∷ rs) = leb (r .number) n && allUpTo n rs
 
-up-to-first : (n : ℕ) (rs : List Row) → allUpTo n rs ≡ true → first rs .number ≤ n
+up-to-first : (n : ℕ) (rs : List Rule) → allUpTo n rs ≡ true → first rs .number ≤ n
 unfolding allUpTo first
 up-to-first n [] h = omega arith
 up-to-first n (r ∷ rs) h =
@@ -100,7 +100,7 @@ refuses n a h =
     let p = and-both (not (isAccepted a)) (leb (a .number) n) h in
     (not-true (isAccepted a) (p .0), leb-true (a .number) n (p .1))
 
-pub keeps : (n : ℕ) (own : Answer) (rs : List Row) → refusesUpTo n own ≡ true → allFrom n rs ≡ true → own ≡ lower own (first rs)
+pub keeps : (n : ℕ) (own : Answer) (rs : List Rule) → refusesUpTo n own ≡ true → allFrom n rs ≡ true → own ≡ lower own (first rs)
 keeps n own rs h k = go (refuses n own h) (all-first n rs k)
   where
     go : (isAccepted own ≡ false) × (own .number ≤ n) → (isAccepted (first rs) ≡ true) ⊎ (n ≤ first rs .number) → own ≡ lower own (first rs)
@@ -108,7 +108,7 @@ keeps n own rs h k = go (refuses n own h) (all-first n rs k)
     go (a, l) (inr m) =
         by-test (isAccepted (first rs)) (λ e. rw e) (λ e. rw (e, a, le-leb (own .number) (first rs .number) (omega arith)))
 
-pub gives-up : (n : ℕ) (own : Answer) (g : List Row) (b : Answer) → refusesUpTo n own ≡ false → allUpTo n g ≡ true → b ≡ first g → isAccepted b ≡ false → b ≡ lower own b
+pub gives-up : (n : ℕ) (own : Answer) (g : List Rule) (b : Answer) → refusesUpTo n own ≡ false → allUpTo n g ≡ true → b ≡ first g → isAccepted b ≡ false → b ≡ lower own b
 gives-up n own g b h u q k =
     by-test (isAccepted own)
     (λ e. rw (k, e))
@@ -121,16 +121,16 @@ has-still own b h = rw h
 
 module _ (ours : ℕ → Bool) where
   -- the rows of one asker
-  unfoldable pub those : Bool → List Row → List Row
+  unfoldable pub those : Bool → List Rule → List Rule
   those b [] = []
   those b (r ∷ rs) = cond (Bool·beq (ours (r .number)) b) (r ∷ those b rs) (those b rs)
 
-  those-in : (b : Bool) (r : Row) (rs : List Row) → ours (r .number) ≡ b → those b (r ∷ rs) ≡ r ∷ those b rs
+  those-in : (b : Bool) (r : Rule) (rs : List Rule) → ours (r .number) ≡ b → those b (r ∷ rs) ≡ r ∷ those b rs
   unfolding those
   those-in true r rs e = rw e
   those-in false r rs e = rw e
 
-  those-out : (b : Bool) (r : Row) (rs : List Row) → ours (r .number) ≡ not b → those b (r ∷ rs) ≡ those b rs
+  those-out : (b : Bool) (r : Rule) (rs : List Rule) → ours (r .number) ≡ not b → those b (r ∷ rs) ≡ those b rs
   unfolding those
   those-out true r rs e = rw e
   those-out false r rs e = rw e
@@ -139,7 +139,7 @@ module _ (ours : ℕ → Bool) where
   Answers : Bool → ℕ → Answer → Type 0
   Answers b n a = (isAccepted a ≡ true) ⊎ ((n ≤ a .number) × (ours (a .number) ≡ b))
 
-  those-answer : (b : Bool) (n : ℕ) (rs : List Row) → AtLeast n rs → Answers b n (first (those b rs))
+  those-answer : (b : Bool) (n : ℕ) (rs : List Rule) → AtLeast n rs → Answers b n (first (those b rs))
   unfolding Answers AtLeast those first
   those-answer b n [] h = inl refl
   those-answer b n (r ∷ rs) h = go (those-answer b n rs (h .1)) (same-or-not (ours (r .number)) b)
@@ -153,7 +153,7 @@ module _ (ours : ℕ → Bool) where
           (λ t. rw (first-next r (those b rs) t) a))
 
   -- a refusal of the other asker's, further down, has a higher number
-  further : (r : Row) (b : Bool) (a : Answer) → ours (r .number) ≡ not b → Answers b (r .number) a → (isAccepted a ≡ true) ⊎ (r .number < a .number)
+  further : (r : Rule) (b : Bool) (a : Answer) → ours (r .number) ≡ not b → Answers b (r .number) a → (isAccepted a ≡ true) ⊎ (r .number < a .number)
   unfolding Answers
   further r b a e (inl h) = inl h
   further r b a e (inr (l, s)) = go (eq-or-lt-of-le l)
@@ -166,7 +166,7 @@ module _ (ours : ℕ → Bool) where
       go (inl q) = absurd (differ b (sym s ∙ ap ours (sym q) ∙ e))
       go (inr q) = inr q
 
-  pub first-lower : (rs : List Row) → neverFalls rs ≡ true → numbered rs ≡ true → first rs ≡ lower (first (those true rs)) (first (those false rs))
+  pub first-lower : (rs : List Rule) → neverFalls rs ≡ true → numbered rs ≡ true → first rs ≡ lower (first (those true rs)) (first (those false rs))
   unfolding those first
   first-lower [] h n = refl
   first-lower (r ∷ rs) h n = go (first-lower rs (l .1) (numbered-next r rs n)) (same-or-not (ours (r .number)) true)

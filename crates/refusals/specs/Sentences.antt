@@ -6,7 +6,7 @@ use mathlib.Core.Path.{_≡_}
 use mathlib.Core.Logic.{_⊎_}
 use mathlib.Core.List.{List, [], _∷_}
 use Rattle.refusals.specs.declared.Answer.{Answer}
-use Rattle.refusals.specs.Table.{answer, accepted}
+use Rattle.refusals.specs.Rules.{answer, accepted}
 
 -- what holds when a refusal applies, and the refusal's number and place
 pub record Sentence : Type 1 where

@@ -1,8 +1,8 @@
-// What the scanner answers, and how a table of refusals is read: from the top, by the first row
-// that applies. The laws about such tables stand in proofs/TableLaws.antt.
-// Which rows there are is left to the crates that know a case or a ledger.
+// What the scanner answers, and how a list of refusals is read: from the top, by the first rule
+// that applies. The laws about such lists stand in proofs/RuleLaws.antt.
+// Which rules there are is left to the crates that know a case or a ledger.
 ghost use mathlib.Core.Path.{_≡_};
-ghost use Rattle.refusals.specs.Table.{accepted as acceptedOf, answer, isAccepted, refusesUpTo};
+ghost use Rattle.refusals.specs.Rules.{accepted as acceptedOf, answer, notGiven, isAccepted, refusesUpTo};
 
 // The number of a refusal and its place, or 0 and 0.
 pub struct Answer {
@@ -24,6 +24,16 @@ impl Answer {
         ensures { λ r. ⌜ r ≡ answer number place ⌝ }
     {
         Answer { number, place }
+    }
+
+    // Stands where no answer was given; no refusal has its number, and it is no pass.
+    pub fn not_given() -> Answer
+        ensures { λ r. ⌜ r ≡ notGiven ⌝ }
+    {
+        Answer {
+            number: 255,
+            place: 0,
+        }
     }
 
     pub fn is_accepted(self) -> bool

@@ -7,8 +7,8 @@ use mathlib.Core.List.{List, []}
 use Rattle.text.specs.Words.{ascii}
 use Rattle.text.specs.Decimal.{decimal, decimalWithin}
 use Rattle.text.specs.Answers.{answerWords, answerLine}
-use Rattle.refusals.specs.Table.{first}
-use Rattle.ledger.specs.Ledgers.{roomIn, openTable}
+use Rattle.refusals.specs.Rules.{first}
+use Rattle.ledger.specs.Ledgers.{roomIn, openRefusals}
 use Rattle.replay.specs.declared.State.{State}
 use Rattle.replay.specs.declared.Next.the-variants.{End, Broken}
 use Rattle.replay.specs.Tape.{brokenTurn, plantOn, freshOn, nextTurn}
@@ -26,5 +26,5 @@ unfolding nextTurn
 end b t r s = refl
 
 pub opened-on-nothing : (n : ℕ) (t r : List ℕ) → freshOn n 0 t r .text ≡ ascii "open 1 0\n"
-unfolding freshOn openTable roomIn first answerLine answerWords decimal decimalWithin
+unfolding freshOn openRefusals roomIn first answerLine answerWords decimal decimalWithin
 opened-on-nothing n t r = refl

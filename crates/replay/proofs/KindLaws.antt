@@ -8,11 +8,11 @@ use borrow.Author.Tests.{ne-eqb, le-leb, lt-leb}
 use Rattle.text.specs.Words.{nameLine}
 use Rattle.replay.specs.declared.State.{State}
 use Rattle.replay.specs.Looks.{ledgerText, rowsText, memoryText, sealText}
-use Rattle.replay.specs.Tape.{turn, brokenTurn, openTurn, plantTurn, caseTurn, freshTurn, blockTurn, lookTurn, bareTurn, sealTurn, nameTurn, entryTurn}
+use Rattle.replay.specs.Tape.{turnOf, brokenTurn, openTurn, plantTurn, caseTurn, freshTurn, blockTurn, lookTurn, bareTurn, sealTurn, nameTurn, entryTurn}
 
 -- a name that is short enough, and one that is not
 module _ (body t r : List ℕ) (s : State) where
-  pub name-short : length body ≤ 100 → turn s t r (nameLine body) ≡ nameTurn body t r s
+  pub name-short : length body ≤ 100 → turnOf s t r (nameLine body) ≡ nameTurn body t r s
   unfolding nameTurn
   name-short h = rw (le-leb (length body) 100 h)
 
@@ -21,15 +21,15 @@ module _ (body t r : List ℕ) (s : State) where
   name-long h = rw (lt-leb (length body) 100 h)
 
 module _ (kind : ℕ) (t r : List ℕ) (s : State) where
-  pub look-ledger : kind ≡ 76 → turn s t r (ledgerText (s .ledger)) ≡ lookTurn kind t r s
+  pub look-ledger : kind ≡ 76 → turnOf s t r (ledgerText (s .ledger)) ≡ lookTurn kind t r s
   unfolding lookTurn
   look-ledger h = rw h
 
-  pub look-rows : kind ≡ 82 → turn s t r (rowsText (take (s .table) t) (take (s .roll) r) (s .ledger)) ≡ lookTurn kind t r s
+  pub look-rows : kind ≡ 82 → turnOf s t r (rowsText (take (s .table) t) (take (s .roll) r) (s .ledger)) ≡ lookTurn kind t r s
   unfolding lookTurn
   look-rows h = rw h
 
-  pub look-memory : kind ≡ 77 → turn s t r (memoryText (take (s .table) t) (take (s .roll) r) (s .ledger)) ≡ lookTurn kind t r s
+  pub look-memory : kind ≡ 77 → turnOf s t r (memoryText (take (s .table) t) (take (s .roll) r) (s .ledger)) ≡ lookTurn kind t r s
   unfolding lookTurn
   look-memory h = rw h
 
@@ -62,7 +62,7 @@ module _ (kind : ℕ) (t r : List ℕ) (s : State) where
     unfolding entryTurn
     entry-case h = rw h
 
-    pub entry-seal : kind ≡ 83 → length body ≡ 41 → turn s t r (sealText body) ≡ entryTurn kind body t r s
+    pub entry-seal : kind ≡ 83 → length body ≡ 41 → turnOf s t r (sealText body) ≡ entryTurn kind body t r s
     unfolding entryTurn sealTurn
     entry-seal h k = rw (h, k)
 

@@ -13,7 +13,7 @@ use Rattle.text.specs.Decimal.{decimal, signed}
 use Rattle.text.specs.Hex.{hex, hex64}
 use Rattle.text.specs.Answers.{answerWords, answerLine}
 use Rattle.refusals.specs.declared.Answer.{Answer}
-use Rattle.refusals.specs.Table.{answer}
+use Rattle.refusals.specs.Rules.{answer}
 use Rattle.sha256.specs.Hash.{sha256Of}
 use Rattle.tree.specs.Record.{recordRoot}
 use Rattle.ledger.specs.declared.Ledger.{Ledger}
@@ -24,7 +24,7 @@ use Rattle.seal.specs.declared.Read.the-variants.{Seal, Broken}
 use Rattle.seal.specs.declared.Sealed.{Sealed}
 use Rattle.seal.specs.declared.Sealed.the-variants.{Passed}
 use Rattle.seal.specs.Body.{floatOf, readOf}
-use Rattle.seal.specs.Judgement.{judgeOf, sealAnswer}
+use Rattle.seal.specs.Pull.{judgeOf, sealAnswer}
 use Rattle.replay.specs.Looks.{ledgerText, rowsShown, rowLines, rowsText, memoryText, pullBits, sealedText, readText, sealText}
 
 pub pool-as : (z : ℤ) {root root′ : List ℕ} → root ≡ root′

@@ -18,31 +18,31 @@ use Rattle.text.specs.Answers.{answerLine}
 use Rattle.text.specs.Pen.{pen, Wrote}
 use Rattle.text.proofs.PenLaws.{text-as}
 use Rattle.refusals.specs.declared.Answer.{Answer}
-use Rattle.refusals.specs.Table.{answer, accepted, first}
+use Rattle.refusals.specs.Rules.{answer, accepted, first}
 use Rattle.octets.proofs.BoolLaws.{and-both}
 use Rattle.ledger.specs.declared.Ledger.{Ledger}
 use Rattle.ledger.specs.declared.Answered.{Answered}
-use Rattle.ledger.specs.Ledgers.{openTable, openedOf, rollAfterOpen, closeTable, closedOf, rollAfterClose}
-use Rattle.ledgerbytes.specs.Keeping.{ledgerOf}
-use Rattle.judge.specs.Judging.{tableAfter, judgedOf}
+use Rattle.ledger.specs.Ledgers.{openRefusals, openedOf, rollAfterOpen, closeRefusals, closedOf, rollAfterClose}
+use Rattle.ledgerbytes.specs.LedgerBytes.{ledgerOf}
+use Rattle.judge.specs.Judging.{tableAfterCase, judgedOf}
 use Rattle.replay.specs.declared.State.{State}
 use Rattle.replay.specs.declared.Ran.{Ran}
-use Rattle.replay.specs.Tape.{Turn, turn, goesOn, nothing, brokenTurn, longest, canLend, lends, openOn, openTurn, plantOn, plantTurn, caseOn, caseTurn, freshOn, freshTurn, blockOn, blockTurn, Within, Plays}
+use Rattle.replay.specs.Tape.{Turn, turnOf, runningOn, nothing, brokenTurn, longest, canLend, lends, openOn, openTurn, plantOn, plantTurn, caseOn, caseTurn, freshOn, freshTurn, blockOn, blockTurn, LentWithin, Plays}
 
 -- the same turn by another name
 pub plays-as : {u v : Turn} {t r x x′ : List ℕ} {a : Ran} → u ≡ v → Plays u t r x x′ a → Plays v t r x x′ a
 plays-as {t = t} {r = r} {x = x} {x′ = x′} {a = a} e h = subst (λ (w : Turn). Plays w t r x x′ a) e h
 
 -- what lies within, of the same state by another name; and of a state with no bytes lent
-pub within-as : {s z : State} {t r : List ℕ} → s ≡ z → Within z t r → Within s t r
-within-as {t = t} {r = r} e h = subst (λ (w : State). Within w t r) (sym e) h
+pub within-as : {s z : State} {t r : List ℕ} → s ≡ z → LentWithin z t r → LentWithin s t r
+within-as {t = t} {r = r} e h = subst (λ (w : State). LentWithin w t r) (sym e) h
 
-pub nowhere : (on : Bool) (t r : List ℕ) → Within (nothing on) t r
+pub nowhere : (on : Bool) (t r : List ℕ) → LentWithin (nothing on) t r
 nowhere on t r = record { table = omega arith; roll = omega arith }
 
 -- a turn by its state and its text
-pub plays : {b e : ℕ} {s z : State} {t r x x′ y : List ℕ} → b ≤ longest → s ≡ z → Within z t r → Wrote b y (pen x 0) (pen x′ e)
-    → Plays (turn z t r y) t r x x′ (record { state = s; end = e })
+pub plays : {b e : ℕ} {s z : State} {t r x x′ y : List ℕ} → b ≤ longest → s ≡ z → LentWithin z t r → Wrote b y (pen x 0) (pen x′ e)
+    → Plays (turnOf z t r y) t r x x′ (record { state = s; end = e })
 plays h k i w = record { state = k; table = refl; roll = refl; text = text-as h refl w; within = within-as k i }
 
 -- what is no entry
@@ -70,9 +70,9 @@ still n p t h = omega (arith, length-append p (drop n t))
 
 -- O
 pub open-plays : (body t r p q x x′ : List ℕ) (n m e : ℕ) (b : Bool) (a : Answered) (s : State) → n ≡ little (field 0 4 body) → m ≡ little (field 4 4 body)
-    → b ≡ canLend (eqb (length body) 8) n m (length t) (length r) → b ≡ true → a .answer ≡ first (openTable (zeros (length (take m r))))
+    → b ≡ canLend (eqb (length body) 8) n m (length t) (length r) → b ≡ true → a .answer ≡ first (openRefusals (zeros (length (take m r))))
     → a .ledger ≡ openedOf (zeros (length (take m r))) → p ≡ zeros (length (take n t)) → q ≡ rollAfterOpen (zeros (length (take m r))) → length q ≡ length (take m r)
-    → Wrote 47 (answerLine (ascii "open") (a .answer)) (pen x 0) (pen x′ e) → s ≡ goesOn (a .ledger) n m
+    → Wrote 47 (answerLine (ascii "open") (a .answer)) (pen x 0) (pen x′ e) → s ≡ runningOn (a .ledger) n m
     → Plays (openTurn body t r) (p ++ drop n t) (q ++ drop m r) x x′ (record { state = s; end = e })
 unfolding openTurn openOn freshOn
 open-plays body t r p q x x′ n m e b a s hn hm hb h ha hl hp hq hk w hs =
@@ -81,52 +81,52 @@ open-plays body t r p q x x′ n m e b a s hn hm hb h ha hl hp hq hk w hs =
     let d : openOn n m t r ≡ openTurn body t r = lends-by _ _ t r hn hm hb h in
     let f : take m (zeros m ++ drop m r) ≡ zeros m = take-at (zeros m) (drop m r) m (zeros-length m) in
     let g : drop m (zeros m ++ drop m r) ≡ drop m r = drop-at (zeros m) (drop m r) m (zeros-length m) in
-    let v : turn (goesOn (a .ledger) n m) (p ++ drop n t) (q ++ drop m r) (answerLine (ascii "open") (a .answer)) ≡ openOn n m t r = rw (ha, hl, hp, hq, i, j, f, g) in
+    let v : turnOf (runningOn (a .ledger) n m) (p ++ drop n t) (q ++ drop m r) (answerLine (ascii "open") (a .answer)) ≡ openOn n m t r = rw (ha, hl, hp, hq, i, j, f, g) in
     plays-as (v ∙ d) (plays (omega arith) hs (record { table = still n p t (ap length hp ∙ zeros-length _ ∙ i); roll = still m q r (hk ∙ j) }) w)
 
 -- P
 pub plant-plays : (body t r p q x x′ : List ℕ) (n m e : ℕ) (b : Bool) (a : Answer) (l : Ledger) (s : State) → n ≡ little (field 988 4 body)
     → m ≡ little (field 992 4 body) → b ≡ canLend (eqb (length body) (996 + n + m)) n m (length t) (length r) → b ≡ true
     → p ≡ field 996 (length (take n t)) body → q ≡ field (996 + n) (length (take m r)) body → a ≡ accepted → l ≡ ledgerOf body
-    → Wrote 48 (answerLine (ascii "plant") a) (pen x 0) (pen x′ e) → s ≡ goesOn l n m
+    → Wrote 48 (answerLine (ascii "plant") a) (pen x 0) (pen x′ e) → s ≡ runningOn l n m
     → Plays (plantTurn body t r) (p ++ drop n t) (q ++ drop m r) x x′ (record { state = s; end = e })
 unfolding plantTurn plantOn
 plant-plays body t r p q x x′ n m e b a l s hn hm hb h hp hq ha hl w hs =
     let i : length (take n t) ≡ n = length-take-le n t (lent-table _ n m _ _ hb h) in
     let j : length (take m r) ≡ m = length-take-le m r (lent-roll _ n m _ _ hb h) in
     let d : plantOn n m body t r ≡ plantTurn body t r = lends-by _ _ t r hn hm hb h in
-    let v : turn (goesOn l n m) (p ++ drop n t) (q ++ drop m r) (answerLine (ascii "plant") a) ≡ plantOn n m body t r = rw (ha, hl, hp, hq, i, j) in
+    let v : turnOf (runningOn l n m) (p ++ drop n t) (q ++ drop m r) (answerLine (ascii "plant") a) ≡ plantOn n m body t r = rw (ha, hl, hp, hq, i, j) in
     plays-as (v ∙ d) (plays (omega arith) hs (record { table = still n p t (ap length hp ∙ field-length 996 _ body ∙ i); roll = still m q r (ap length hq ∙ field-length (996 + n) _ body ∙ j) }) w)
 
 -- C
-pub case-plays : (body t r p x x′ : List ℕ) (e : ℕ) (z : State) (a : Answered) (s : State) → Within z t r
-    → a ≡ judgedOf body (take (z .table) t) (take (z .roll) r) (z .ledger) → p ≡ tableAfter body (take (z .table) t) (take (z .roll) r) (z .ledger)
-    → length p ≡ length (take (z .table) t) → Wrote 47 (answerLine (ascii "case") (a .answer)) (pen x 0) (pen x′ e) → s ≡ goesOn (a .ledger) (z .table) (z .roll)
+pub case-plays : (body t r p x x′ : List ℕ) (e : ℕ) (z : State) (a : Answered) (s : State) → LentWithin z t r
+    → a ≡ judgedOf body (take (z .table) t) (take (z .roll) r) (z .ledger) → p ≡ tableAfterCase body (take (z .table) t) (take (z .roll) r) (z .ledger)
+    → length p ≡ length (take (z .table) t) → Wrote 47 (answerLine (ascii "case") (a .answer)) (pen x 0) (pen x′ e) → s ≡ runningOn (a .ledger) (z .table) (z .roll)
     → Plays (caseTurn body t r z) (p ++ drop (z .table) t) r x x′ (record { state = s; end = e })
 unfolding caseTurn caseOn judgedOf
 case-plays body t r p x x′ e z a s h ha hp hk w hs =
-    let v : turn (goesOn (a .ledger) (z .table) (z .roll)) (p ++ drop (z .table) t) r (answerLine (ascii "case") (a .answer)) ≡ caseTurn body t r z = rw (ha, hp) in
+    let v : turnOf (runningOn (a .ledger) (z .table) (z .roll)) (p ++ drop (z .table) t) r (answerLine (ascii "case") (a .answer)) ≡ caseTurn body t r z = rw (ha, hp) in
     plays-as v (plays (omega arith) hs (record { table = still (z .table) p t (hk ∙ length-take-le (z .table) t (h .table)); roll = h .roll }) w)
 
 -- F and B: a call that changes the roll alone. It left q in the lent part, and u is the turn that it makes
-roll-plays : {b : ℕ} (word t r q x x′ : List ℕ) (e : ℕ) (z : State) (a : Answered) (s : State) (u : Turn) → b ≤ longest → Within z t r
-    → length q ≡ length (take (z .roll) r) → Wrote b (answerLine word (a .answer)) (pen x 0) (pen x′ e) → s ≡ goesOn (a .ledger) (z .table) (z .roll)
-    → turn (goesOn (a .ledger) (z .table) (z .roll)) t (q ++ drop (z .roll) r) (answerLine word (a .answer)) ≡ u
+roll-plays : {b : ℕ} (word t r q x x′ : List ℕ) (e : ℕ) (z : State) (a : Answered) (s : State) (u : Turn) → b ≤ longest → LentWithin z t r
+    → length q ≡ length (take (z .roll) r) → Wrote b (answerLine word (a .answer)) (pen x 0) (pen x′ e) → s ≡ runningOn (a .ledger) (z .table) (z .roll)
+    → turnOf (runningOn (a .ledger) (z .table) (z .roll)) t (q ++ drop (z .roll) r) (answerLine word (a .answer)) ≡ u
     → Plays u t (q ++ drop (z .roll) r) x x′ (record { state = s; end = e })
 roll-plays word t r q x x′ e z a s u hb h hk w hs v =
     plays-as v (plays hb hs (record { table = h .table; roll = still (z .roll) q r (hk ∙ length-take-le (z .roll) r (h .roll)) }) w)
 
-pub fresh-plays : (t r q x x′ : List ℕ) (e : ℕ) (z : State) (a : Answered) (s : State) → Within z t r
-    → a .answer ≡ first (openTable (take (z .roll) r)) → a .ledger ≡ openedOf (take (z .roll) r) → q ≡ rollAfterOpen (take (z .roll) r)
+pub fresh-plays : (t r q x x′ : List ℕ) (e : ℕ) (z : State) (a : Answered) (s : State) → LentWithin z t r
+    → a .answer ≡ first (openRefusals (take (z .roll) r)) → a .ledger ≡ openedOf (take (z .roll) r) → q ≡ rollAfterOpen (take (z .roll) r)
     → length q ≡ length (take (z .roll) r) → Wrote 47 (answerLine (ascii "open") (a .answer)) (pen x 0) (pen x′ e)
-    → s ≡ goesOn (a .ledger) (z .table) (z .roll) → Plays (freshTurn t r z) t (q ++ drop (z .roll) r) x x′ (record { state = s; end = e })
+    → s ≡ runningOn (a .ledger) (z .table) (z .roll) → Plays (freshTurn t r z) t (q ++ drop (z .roll) r) x x′ (record { state = s; end = e })
 unfolding freshTurn freshOn
 fresh-plays t r q x x′ e z a s h ha hl hq hk w hs = roll-plays (ascii "open") t r q x x′ e z a s (freshTurn t r z) (omega arith) h hk w hs (rw (ha, hl, hq))
 
-pub block-plays : (t r q x x′ : List ℕ) (e : ℕ) (z : State) (a : Answered) (s : State) → Within z t r
-    → a .answer ≡ first (closeTable (take (z .table) t) (take (z .roll) r) (z .ledger)) → a .ledger ≡ closedOf (take (z .table) t) (take (z .roll) r) (z .ledger)
+pub block-plays : (t r q x x′ : List ℕ) (e : ℕ) (z : State) (a : Answered) (s : State) → LentWithin z t r
+    → a .answer ≡ first (closeRefusals (take (z .table) t) (take (z .roll) r) (z .ledger)) → a .ledger ≡ closedOf (take (z .table) t) (take (z .roll) r) (z .ledger)
     → q ≡ rollAfterClose (take (z .table) t) (take (z .roll) r) (z .ledger) → length q ≡ length (take (z .roll) r)
-    → Wrote 48 (answerLine (ascii "block") (a .answer)) (pen x 0) (pen x′ e) → s ≡ goesOn (a .ledger) (z .table) (z .roll)
+    → Wrote 48 (answerLine (ascii "block") (a .answer)) (pen x 0) (pen x′ e) → s ≡ runningOn (a .ledger) (z .table) (z .roll)
     → Plays (blockTurn t r z) t (q ++ drop (z .roll) r) x x′ (record { state = s; end = e })
 unfolding blockTurn blockOn
 block-plays t r q x x′ e z a s h ha hl hq hk w hs = roll-plays (ascii "block") t r q x x′ e z a s (blockTurn t r z) (omega arith) h hk w hs (rw (ha, hl, hq))

@@ -12,7 +12,7 @@ use Rattle.text.specs.Words.{ascii}
 use Rattle.text.specs.Decimal.{decimal, signed}
 use Rattle.text.specs.Hex.{hex, hex64}
 use Rattle.text.specs.Answers.{answerWords, answerLine}
-use Rattle.refusals.specs.Table.{answer}
+use Rattle.refusals.specs.Rules.{answer}
 use Rattle.sha256.specs.Hash.{sha256Of}
 use Rattle.tree.specs.Record.{recordRoot}
 use Rattle.ledger.specs.declared.Ledger.{Ledger}
@@ -23,7 +23,7 @@ use Rattle.seal.specs.declared.Read.the-variants.{Seal, Broken}
 use Rattle.seal.specs.declared.Sealed.{Sealed}
 use Rattle.seal.specs.declared.Sealed.the-variants.{Passed, BadLimit, NotFinite, Outside}
 use Rattle.seal.specs.Body.{floatOf, readOf}
-use Rattle.seal.specs.Judgement.{judgeOf, sealAnswer}
+use Rattle.seal.specs.Pull.{judgeOf, sealAnswer}
 
 -- THE LEDGER: its counts, its pool and its record's root
 unfoldable pub ledgerText : Ledger → List ℕ

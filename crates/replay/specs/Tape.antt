@@ -13,11 +13,11 @@ use Rattle.octets.specs.Parts.{zeros, field}
 use Rattle.text.specs.Words.{ascii, nameLine}
 use Rattle.text.specs.Answers.{answerLine}
 use Rattle.text.specs.Pen.{pen, Wrote}
-use Rattle.refusals.specs.Table.{answer, accepted, first}
+use Rattle.refusals.specs.Rules.{answer, accepted, first}
 use Rattle.ledger.specs.declared.Ledger.{Ledger}
-use Rattle.ledger.specs.Ledgers.{startOf, openTable, openedOf, rollAfterOpen, closeTable, closedOf, rollAfterClose}
-use Rattle.ledgerbytes.specs.Keeping.{ledgerOf}
-use Rattle.judge.specs.Judging.{answerOf, ledgerAfter, tableAfter}
+use Rattle.ledger.specs.Ledgers.{emptyLedger, openRefusals, openedOf, rollAfterOpen, closeRefusals, closedOf, rollAfterClose}
+use Rattle.ledgerbytes.specs.LedgerBytes.{ledgerOf}
+use Rattle.judge.specs.Judging.{answerOf, ledgerAfterCase, tableAfterCase}
 use Rattle.replay.specs.declared.State.{State}
 use Rattle.replay.specs.declared.Ran.{Ran}
 use Rattle.replay.specs.declared.Next.{Next}
@@ -31,20 +31,20 @@ pub record Turn : Type 0 where
   pub roll : List ℕ
   pub text : List ℕ
 
-abbrev pub turn : State → List ℕ → List ℕ → List ℕ → Turn
-turn s t r x = record { state = s; table = t; roll = r; text = x }
+abbrev pub turnOf : State → List ℕ → List ℕ → List ℕ → Turn
+turnOf s t r x = record { state = s; table = t; roll = r; text = x }
 
 -- the run goes on with this ledger, on n bytes of the table's buffer and m of the roll's
-abbrev pub goesOn : Ledger → ℕ → ℕ → State
-goesOn l n m = record { on = true; ledger = l; table = n; roll = m }
+abbrev pub runningOn : Ledger → ℕ → ℕ → State
+runningOn l n m = record { on = true; ledger = l; table = n; roll = m }
 
 -- a ledger with nothing in it, not even an anchor, on no bytes: before the first entry, and after the run
 abbrev pub nothing : Bool → State
-nothing on = record { on = on; ledger = startOf 0; table = 0; roll = 0 }
+nothing on = record { on = on; ledger = emptyLedger 0; table = 0; roll = 0 }
 
 -- what is no entry ends the run
 unfoldable pub brokenTurn : List ℕ → List ℕ → Turn
-brokenTurn t r = turn (nothing false) t r (answerLine (ascii "tape") (answer 50 0))
+brokenTurn t r = turnOf (nothing false) t r (answerLine (ascii "tape") (answer 50 0))
 
 -- an entry's kind is the code of a letter
 abbrev pub isKind : String → ℕ → Bool
@@ -61,7 +61,7 @@ lends whole u n m t r = cond (canLend (whole n m) n m (length t) (length r)) (u 
 -- F OPENS a fresh ledger on the lent bytes as they stand
 unfoldable pub freshOn : ℕ → ℕ → List ℕ → List ℕ → Turn
 freshOn n m t r =
-    turn (goesOn (openedOf (take m r)) n m) t (rollAfterOpen (take m r) ++ drop m r) (answerLine (ascii "open") (first (openTable (take m r))))
+    turnOf (runningOn (openedOf (take m r)) n m) t (rollAfterOpen (take m r) ++ drop m r) (answerLine (ascii "open") (first (openRefusals (take m r))))
 
 unfoldable pub freshTurn : List ℕ → List ℕ → State → Turn
 freshTurn t r s = freshOn (s .table) (s .roll) t r
@@ -76,7 +76,7 @@ openTurn body t r = lends (λ n m. eqb (length body) 8) (λ n m. openOn n m t r)
 -- P PLANTS any ledger, a damaged one too. Body: the ledger (988), how many bytes of the table (4) and of the roll (4), and those bytes
 unfoldable pub plantOn : ℕ → ℕ → List ℕ → List ℕ → List ℕ → Turn
 plantOn n m body t r =
-    turn (goesOn (ledgerOf body) n m) (field 996 n body ++ drop n t) (field (996 + n) m body ++ drop m r) (answerLine (ascii "plant") accepted)
+    turnOf (runningOn (ledgerOf body) n m) (field 996 n body ++ drop n t) (field (996 + n) m body ++ drop m r) (answerLine (ascii "plant") accepted)
 
 unfoldable pub plantTurn : List ℕ → List ℕ → List ℕ → Turn
 plantTurn body t r = lends (λ n m. eqb (length body) (996 + n + m)) (λ n m. plantOn n m body t r) (little (field 988 4 body)) (little (field 992 4 body)) t r
@@ -84,7 +84,7 @@ plantTurn body t r = lends (λ n m. eqb (length body) (996 + n + m)) (λ n m. pl
 -- C JUDGES a case, which is the body
 unfoldable pub caseOn : ℕ → ℕ → Ledger → List ℕ → List ℕ → List ℕ → Turn
 caseOn n m l body t r =
-    turn (goesOn (ledgerAfter body (take n t) (take m r) l) n m) (tableAfter body (take n t) (take m r) l ++ drop n t) r
+    turnOf (runningOn (ledgerAfterCase body (take n t) (take m r) l) n m) (tableAfterCase body (take n t) (take m r) l ++ drop n t) r
     (answerLine (ascii "case") (answerOf body (take n t) (take m r) l))
 
 unfoldable pub caseTurn : List ℕ → List ℕ → List ℕ → State → Turn
@@ -93,8 +93,8 @@ caseTurn body t r s = caseOn (s .table) (s .roll) (s .ledger) body t r
 -- B CLOSES a block
 unfoldable pub blockOn : ℕ → ℕ → Ledger → List ℕ → List ℕ → Turn
 blockOn n m l t r =
-    turn (goesOn (closedOf (take n t) (take m r) l) n m) t (rollAfterClose (take n t) (take m r) l ++ drop m r)
-    (answerLine (ascii "block") (first (closeTable (take n t) (take m r) l)))
+    turnOf (runningOn (closedOf (take n t) (take m r) l) n m) t (rollAfterClose (take n t) (take m r) l ++ drop m r)
+    (answerLine (ascii "block") (first (closeRefusals (take n t) (take m r) l)))
 
 unfoldable pub blockTurn : List ℕ → List ℕ → State → Turn
 blockTurn t r s = blockOn (s .table) (s .roll) (s .ledger) t r
@@ -102,9 +102,9 @@ blockTurn t r s = blockOn (s .table) (s .roll) (s .ledger) t r
 -- L, R and M LOOK at the ledger, at its rows and at its memory
 unfoldable pub lookTurn : ℕ → List ℕ → List ℕ → State → Turn
 lookTurn kind t r s =
-    cond (isKind "L" kind) (turn s t r (ledgerText (s .ledger)))
-    (cond (isKind "R" kind) (turn s t r (rowsText (take (s .table) t) (take (s .roll) r) (s .ledger)))
-    (cond (isKind "M" kind) (turn s t r (memoryText (take (s .table) t) (take (s .roll) r) (s .ledger)))
+    cond (isKind "L" kind) (turnOf s t r (ledgerText (s .ledger)))
+    (cond (isKind "R" kind) (turnOf s t r (rowsText (take (s .table) t) (take (s .roll) r) (s .ledger)))
+    (cond (isKind "M" kind) (turnOf s t r (memoryText (take (s .table) t) (take (s .roll) r) (s .ledger)))
     (brokenTurn t r)))
 
 -- F, B and those three have an empty body
@@ -113,11 +113,11 @@ bareTurn kind t r s = cond (isKind "F" kind) (freshTurn t r s) (cond (isKind "B"
 
 -- S JUDGES A SEAL. Body: the gain (8), the offset (8) and the seal (25)
 unfoldable pub sealTurn : List ℕ → List ℕ → List ℕ → State → Turn
-sealTurn body t r s = cond (eqb (length body) 41) (turn s t r (sealText body)) (brokenTurn t r)
+sealTurn body t r s = cond (eqb (length body) 41) (turnOf s t r (sealText body)) (brokenTurn t r)
 
 -- N NAMES the run that follows, by a line of its own. Body: the name, of at most 100 bytes
 unfoldable pub nameTurn : List ℕ → List ℕ → List ℕ → State → Turn
-nameTurn body t r s = cond (leb (length body) 100) (turn s t r (nameLine body)) (brokenTurn t r)
+nameTurn body t r s = cond (leb (length body) 100) (turnOf s t r (nameLine body)) (brokenTurn t r)
 
 -- AN ENTRY by its kind
 unfoldable pub entryTurn : ℕ → List ℕ → List ℕ → List ℕ → State → Turn
@@ -133,17 +133,17 @@ entryTurn kind body t r s =
 -- WHAT STANDS NEXT on the tape, whose body was read to the start of the buffer b: at the end nothing is printed
 unfoldable pub nextTurn : Next → List ℕ → List ℕ → List ℕ → State → Turn
 nextTurn (Entry kind n) b t r s = entryTurn kind (take n b) t r s
-nextTurn End b t r s = turn (nothing false) t r []
+nextTurn End b t r s = turnOf (nothing false) t r []
 nextTurn Broken b t r s = brokenTurn t r
 
 -- how many bytes an entry's body has
-abbrev pub lengthOf : Next → ℕ
-lengthOf (Entry kind n) = n
-lengthOf End = 0
-lengthOf Broken = 0
+abbrev pub entryLength : Next → ℕ
+entryLength (Entry kind n) = n
+entryLength End = 0
+entryLength Broken = 0
 
 -- the bytes that are lent lie within the buffers t and r
-pub record Within (s : State) (t r : List ℕ) : Type 0 where
+pub record LentWithin (s : State) (t r : List ℕ) : Type 0 where
   pub table : s .table ≤ length t
   pub roll : s .roll ≤ length r
 
@@ -158,4 +158,4 @@ pub record Plays (u : Turn) (t r m m′ : List ℕ) (a : Ran) : Type 0 where
   pub table : t ≡ u .table
   pub roll : r ≡ u .roll
   pub text : Wrote longest (u .text) (pen m 0) (pen m′ (a .end))
-  pub within : Within (a .state) t r
+  pub within : LentWithin (a .state) t r

@@ -8,19 +8,21 @@ ghost use Prim.Native.Nat.{_+_, _*_, _≤_, min};
 ghost use mathlib.Core.List.{_++_};
 ghost use lib.ListN.{length};
 ghost use Rattle.octets.specs.Parts.{zeros};
-ghost use Rattle.refusals.specs.Table.{first, answer};
+ghost use Rattle.refusals.specs.Rules.{first, answer};
 ghost use Rattle.sha256.specs.Hash.{sha256Of};
 ghost use Rattle.tree.specs.Record.{recordRoot};
-ghost use Rattle.ledger.specs.Ledgers.{openTable, openedOf, rollAfterOpen, roomIn};
+ghost use Rattle.ledger.specs.Ledgers.{openRefusals, openedOf, rollAfterOpen, roomIn};
 ghost use Rattle.text.specs.Words.{ascii};
 ghost use Rattle.text.specs.Decimal.{signed};
 ghost use Rattle.text.specs.Answers.{answerWords, answerLine};
 ghost use Rattle.text.specs.Hex.{hex, hex64};
 ghost use Rattle.text.specs.Pen.{pen, Wrote};
 ghost use Rattle.replay.specs.Looks.{ledgerText, rowLine, rowLines, rowsText, memoryText, pullBits, sealedText, sealText};
-ghost use Rattle.replay.specs.Tape.{nothing as nothingOf, goesOn, canLend, openTurn, plantTurn, caseTurn, freshTurn, blockTurn, lookTurn, bareTurn, nameTurn, entryTurn, nextTurn, lengthOf, longest, Within, Plays};
+ghost use Rattle.replay.specs.Tape.{nothing as nothingOf, runningOn, canLend, openTurn, plantTurn, caseTurn, freshTurn, blockTurn, lookTurn, bareTurn, nameTurn, entryTurn, nextTurn, entryLength, longest, LentWithin, Plays};
 use ledger::Answered;
 use ledger::Ledger;
+use ledger::MOST_ANCHORS;
+use ledger::MOST_NULLIFIERS;
 use ledger::Pool;
 use libc::STDIN_FILENO;
 use refusals::Answer;
@@ -79,7 +81,7 @@ fn nothing(on: bool) -> State
 
 // A fresh ledger on zeroed buffers.
 fn opened(table: &mut [u8], roll: &mut [u8]) -> Answered
-    ensures { λ r. ⌜ r .answer ≡ first (openTable (zeros (length (now (roll .entry))))) ⌝ }
+    ensures { λ r. ⌜ r .answer ≡ first (openRefusals (zeros (length (now (roll .entry))))) ⌝ }
     ensures { λ r. ⌜ r .ledger ≡ openedOf (zeros (length (now (roll .entry)))) ⌝ }
     ensures { λ _. ⌜ now (table .exit) ≡ zeros (length (now (table .entry))) ⌝ }
     ensures { λ _. ⌜ now (roll .exit) ≡ rollAfterOpen (zeros (length (now (roll .entry)))) ⌝ }
@@ -160,8 +162,8 @@ fn put_rows(out: &mut [u8], at: usize, word: &[u8], n: usize, bytes: &[u8]) -> u
 fn put_all_rows(out: &mut [u8], table: &[u8], roll: &[u8], l: Ledger) -> usize
     ensures { λ r. ⌜ Wrote longest (rowsText (now (table .entry)) (now (roll .entry)) l) (pen (now (out .entry)) 0) (pen (now (out .exit)) r) ⌝ }
 {
-    let n = rows_shown(2048, l.nullifiers, table.len());
-    let m = rows_shown(1024, l.anchors, roll.len());
+    let n = rows_shown(MOST_NULLIFIERS, l.nullifiers, table.len());
+    let m = rows_shown(MOST_ANCHORS, l.anchors, roll.len());
     let next = put_rows(out, 0, b"spent ", n, table);
     put_rows(out, next, b"anchor ", m, roll)
 }
@@ -247,7 +249,7 @@ fn can_lend(whole: bool, n: usize, m: usize, table: usize, roll: usize) -> bool
 }
 
 fn going_on(ledger: Ledger, table: usize, roll: usize) -> State
-    ensures { λ r. ⌜ r ≡ goesOn ledger table roll ⌝ }
+    ensures { λ r. ⌜ r ≡ runningOn ledger table roll ⌝ }
 {
     State {
         on: true,
@@ -287,7 +289,7 @@ fn run_plant(body: &[u8], table: &mut [u8], roll: &mut [u8], out: &mut [u8]) -> 
 }
 
 fn run_case(body: &[u8], table: &mut [u8], roll: &[u8], state: State, out: &mut [u8]) -> Ran
-    requires { ⌜ Within state (now table) (now roll) ⌝ }
+    requires { ⌜ LentWithin state (now table) (now roll) ⌝ }
     ensures { λ a. ⌜ Plays (caseTurn (now (body .entry)) (now (table .entry)) (now (roll .entry)) state) (now (table .exit)) (now (roll .entry)) (now (out .entry)) (now (out .exit)) a ⌝ }
 {
     let n = state.table;
@@ -300,7 +302,7 @@ fn run_case(body: &[u8], table: &mut [u8], roll: &[u8], state: State, out: &mut 
 
 // A fresh ledger on the lent bytes as they stand: what of them changes is seen by a look before and after.
 fn run_fresh(table: &[u8], roll: &mut [u8], state: State, out: &mut [u8]) -> Ran
-    requires { ⌜ Within state (now table) (now roll) ⌝ }
+    requires { ⌜ LentWithin state (now table) (now roll) ⌝ }
     ensures { λ a. ⌜ Plays (freshTurn (now (table .entry)) (now (roll .entry)) state) (now (table .entry)) (now (roll .exit)) (now (out .entry)) (now (out .exit)) a ⌝ }
 {
     let n = state.table;
@@ -312,7 +314,7 @@ fn run_fresh(table: &[u8], roll: &mut [u8], state: State, out: &mut [u8]) -> Ran
 }
 
 fn run_block(table: &[u8], roll: &mut [u8], state: State, out: &mut [u8]) -> Ran
-    requires { ⌜ Within state (now table) (now roll) ⌝ }
+    requires { ⌜ LentWithin state (now table) (now roll) ⌝ }
     ensures { λ a. ⌜ Plays (blockTurn (now (table .entry)) (now (roll .entry)) state) (now (table .entry)) (now (roll .exit)) (now (out .entry)) (now (out .exit)) a ⌝ }
 {
     let n = state.table;
@@ -325,7 +327,7 @@ fn run_block(table: &[u8], roll: &mut [u8], state: State, out: &mut [u8]) -> Ran
 
 // Entries that look at the ledger, its rows or its memory, and change nothing.
 fn run_look(kind: u8, table: &[u8], roll: &[u8], state: State, out: &mut [u8]) -> Ran
-    requires { ⌜ Within state (now table) (now roll) ⌝ }
+    requires { ⌜ LentWithin state (now table) (now roll) ⌝ }
     ensures { λ a. ⌜ Plays (lookTurn kind (now (table .entry)) (now (roll .entry)) state) (now (table .entry)) (now (roll .entry)) (now (out .entry)) (now (out .exit)) a ⌝ }
 {
     let n = state.table;
@@ -347,7 +349,7 @@ fn run_look(kind: u8, table: &[u8], roll: &[u8], state: State, out: &mut [u8]) -
 
 // Entries whose body is empty.
 fn run_bare(kind: u8, table: &[u8], roll: &mut [u8], state: State, out: &mut [u8]) -> Ran
-    requires { ⌜ Within state (now table) (now roll) ⌝ }
+    requires { ⌜ LentWithin state (now table) (now roll) ⌝ }
     ensures { λ a. ⌜ Plays (bareTurn kind (now (table .entry)) (now (roll .entry)) state) (now (table .entry)) (now (roll .exit)) (now (out .entry)) (now (out .exit)) a ⌝ }
 {
     if kind == b'F' {
@@ -361,7 +363,7 @@ fn run_bare(kind: u8, table: &[u8], roll: &mut [u8], state: State, out: &mut [u8
 
 // A name, which changes nothing but what is printed.
 fn run_name(body: &[u8], table: &[u8], roll: &[u8], state: State, out: &mut [u8]) -> Ran
-    requires { ⌜ Within state (now table) (now roll) ⌝ }
+    requires { ⌜ LentWithin state (now table) (now roll) ⌝ }
     ensures { λ a. ⌜ Plays (nameTurn (now (body .entry)) (now (table .entry)) (now (roll .entry)) state) (now (table .entry)) (now (roll .entry)) (now (out .entry)) (now (out .exit)) a ⌝ }
 {
     if body.len() <= 100 {
@@ -379,7 +381,7 @@ fn run(
     state: State,
     out: &mut [u8],
 ) -> Ran
-    requires { ⌜ Within state (now table) (now roll) ⌝ }
+    requires { ⌜ LentWithin state (now table) (now roll) ⌝ }
     ensures { λ a. ⌜ Plays (entryTurn kind (now (body .entry)) (now (table .entry)) (now (roll .entry)) state) (now (table .exit)) (now (roll .exit)) (now (out .entry)) (now (out .exit)) a ⌝ }
 {
     if kind == b'O' {
@@ -410,7 +412,7 @@ fn run(
 // Reads the next entry's body to the start of a buffer as long as the longest body. A read that fails
 // counts as the tape's end.
 fn read_next(buffer: &mut [u8]) -> Next
-    ensures { λ r. ⌜ lengthOf r ≤ length (now (buffer .exit)) ⌝ }
+    ensures { λ r. ⌜ entryLength r ≤ length (now (buffer .exit)) ⌝ }
 {
     let mut head = [0u8; 5];
     let got = io::read_full(STDIN_FILENO, &mut head);
@@ -439,8 +441,8 @@ fn play_next(
     state: State,
     out: &mut [u8],
 ) -> Ran
-    requires { ⌜ lengthOf next ≤ length (now buffer) ⌝ }
-    requires { ⌜ Within state (now table) (now roll) ⌝ }
+    requires { ⌜ entryLength next ≤ length (now buffer) ⌝ }
+    requires { ⌜ LentWithin state (now table) (now roll) ⌝ }
     ensures { λ a. ⌜ Plays (nextTurn next (now (buffer .entry)) (now (table .entry)) (now (roll .entry)) state) (now (table .exit)) (now (roll .exit)) (now (out .entry)) (now (out .exit)) a ⌝ }
 {
     match next {
@@ -456,8 +458,8 @@ fn play_next(
 // Plays and prints what stands next. A run whose text cannot be written ends.
 fn turn(buffer: &mut [u8], table: &mut [u8], roll: &mut [u8], state: State, out: &mut [u8]) -> State
     requires { ⌜ longest ≤ length (now out) ⌝ }
-    requires { ⌜ Within state (now table) (now roll) ⌝ }
-    ensures { λ r. ⌜ Within r (now (table .exit)) (now (roll .exit)) ⌝ }
+    requires { ⌜ LentWithin state (now table) (now roll) ⌝ }
+    ensures { λ r. ⌜ LentWithin r (now (table .exit)) (now (roll .exit)) ⌝ }
 {
     let next = read_next(buffer);
     let ran = play_next(next, buffer, table, roll, state, out);

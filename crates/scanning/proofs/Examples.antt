@@ -11,11 +11,11 @@ use Rattle.text.specs.Decimal.{decimal, decimalWithin, signed, signedBy}
 use Rattle.text.specs.Answers.{answerWords, answerLine}
 use Rattle.text.proofs.DecimalLaws.{decimal-within}
 use Rattle.refusals.specs.declared.Answer.{Answer}
-use Rattle.refusals.specs.Table.{answer, accepted}
+use Rattle.refusals.specs.Rules.{answer, accepted}
 use Rattle.ledger.specs.declared.Ledger.{Ledger}
 use Rattle.bag.specs.Contents.{laidOut}
-use Rattle.bag.specs.Scanning.{sealIn, padded, report, scannedOf}
-use Rattle.scanning.specs.Setting.{freshScan}
+use Rattle.bag.specs.SealAndCases.{sealIn, sevenAnswers, report, scannedOf}
+use Rattle.scanning.specs.FreshLedger.{freshScan}
 use Rattle.scanning.specs.Lines.{caseLines, ledgerLine, linesOf}
 
 -- THE EXAMPLE of document 01: a case that passes, and the same case again, whose first nullifier is spent by then
@@ -31,7 +31,7 @@ ledger-example l h k m = rw (h, k, m) counts
 
 pub example : (l : Ledger) → l .nullifiers ≡ 2 → l .tree .leaves ≡ 2 → l .pool .0 ≡ pos 10000
     → linesOf (report accepted accepted (accepted ∷ answer 8 1 ∷ []) l) ≡ ascii "seal 0 0\ncase 0 0\ncase 8 1\nledger spent 2 leaves 2 pool 10000\n"
-unfolding linesOf caseLines flatMap answerLine answerWords report padded decimal decimalWithin
+unfolding linesOf caseLines flatMap answerLine answerWords report sevenAnswers decimal decimalWithin
 example l h k m = rw (ledger-example l h k m)
 
 -- A BROKEN LAYOUT, of any bag that has one

@@ -8,7 +8,7 @@ use Rattle.text.specs.Words.{ascii}
 use Rattle.text.specs.Decimal.{decimal, signed}
 use Rattle.text.specs.Answers.{answerLine}
 use Rattle.refusals.specs.declared.Answer.{Answer}
-use Rattle.refusals.specs.Table.{isAccepted}
+use Rattle.refusals.specs.Rules.{isAccepted}
 use Rattle.ledger.specs.declared.Ledger.{Ledger}
 use Rattle.bag.specs.declared.Scanned.{Scanned}
 

@@ -7,7 +7,7 @@ ghost use lib.ListN.{take};
 ghost use Rattle.text.specs.Decimal.{signed};
 ghost use Rattle.text.specs.Pen.{pen, Wrote, Rendered};
 ghost use Rattle.scanning.specs.Lines.{caseLines, ledgerLine, linesOf};
-ghost use Rattle.scanning.specs.Setting.{calibrated, freshScan};
+ghost use Rattle.scanning.specs.FreshLedger.{calibrated, freshScan};
 use bag::Scanned;
 use ledger::Ledger;
 use ledger::Pool;

@@ -14,8 +14,8 @@ use Rattle.seal.specs.declared.Gate.{Gate}
 use Rattle.seal.specs.declared.Gate.the-variants.{None, AtLeast, Between}
 use Rattle.seal.specs.declared.Read.{Read}
 use Rattle.seal.specs.declared.Read.the-variants.{Seal, Broken}
-use Rattle.seal.specs.Judgement.{pullOf, badLimit, within, atGate, judgeOf, sealAnswer}
-use Rattle.seal.specs.Body.{floatOf, isZero, gateOf, spoilt, isBroken, readOf}
+use Rattle.seal.specs.Pull.{pullOf, badLimit, within, atGate, judgeOf, sealAnswer}
+use Rattle.seal.specs.Body.{floatOf, isZero, gateOf, unusedLimitSet, isBroken, readOf}
 
 abbrev minus0 : ℕ
 minus0 = 0x8000000000000000
@@ -110,5 +110,5 @@ tests =
     ∷ []
 
 marked : foldr _&&_ true tests ≡ true
-unfolding Ieee.ofBits Ieee.toBits Ieee.mul Ieee.add Ieee.le Ieee.lt pullOf badLimit within atGate judgeOf listed field same little littleBytes floatOf isZero gateOf spoilt isBroken readOf
+unfolding Ieee.ofBits Ieee.toBits Ieee.mul Ieee.add Ieee.le Ieee.lt pullOf badLimit within atGate judgeOf listed field same little littleBytes floatOf isZero gateOf unusedLimitSet isBroken readOf
 marked = refl

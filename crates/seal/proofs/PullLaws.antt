@@ -8,12 +8,12 @@ use native.Mathlib.Omega.{arith}
 use lib.Ieee
 use lib.Ieee.{Float, nan}
 use lib.Ieee.Scale.{finite}
-use Rattle.refusals.specs.Table.{answer, accepted, first}
-use Rattle.refusals.proofs.TableLaws.{by-test}
+use Rattle.refusals.specs.Rules.{answer, accepted, first}
+use Rattle.refusals.proofs.RuleLaws.{by-test}
 use Rattle.seal.specs.declared.Calibration.{Calibration}
 use Rattle.seal.specs.declared.Gate.{Gate}
 use Rattle.seal.specs.declared.Sealed.the-variants.{Passed, BadLimit, NotFinite, Outside}
-use Rattle.seal.specs.Judgement.{pullOf, badLimit, notFinite, within, outside, atGate, judgeOf, sealAnswer, sealTable}
+use Rattle.seal.specs.Pull.{pullOf, badLimit, notFinite, within, outside, atGate, judgeOf, sealAnswer, sealRefusals}
 
 module _ (g : Gate) (p : Float) where
   pub bad-limit : badLimit g ≡ true → BadLimit ≡ atGate g p
@@ -45,8 +45,8 @@ module _ (g : Gate) (p : Float) where
 
 module _ (c : Calibration) (g : Gate) where
   -- the answer is that of the table's first row that applies
-  pub answered : (raw : Float) → sealAnswer (judgeOf c g raw) ≡ first (sealTable c g raw)
-  unfolding judgeOf atGate sealTable first
+  pub answered : (raw : Float) → sealAnswer (judgeOf c g raw) ≡ first (sealRefusals c g raw)
+  unfolding judgeOf atGate sealRefusals first
   answered raw = by-tests (badLimit g) (notFinite (pullOf raw c)) (outside g (pullOf raw c))
     where
       by-tests : (b f o : Bool) → sealAnswer (cond b BadLimit (cond f NotFinite (cond o Outside (Passed (pullOf raw c))))) ≡ cond b (answer 21 0) (cond f (answer 22 0) (cond o (answer 23 0) accepted))

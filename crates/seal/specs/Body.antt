@@ -41,12 +41,12 @@ gateOf s =
     (Between (floatOf (low s)) (floatOf (high s))))
 
 -- an unused limit is zero bytes: gates of kind k do not use a limit that is used from a higher kind on
-unfoldable pub spoilt : ℕ → ℕ → List ℕ → Bool
-spoilt k from limit = ltb k from && not (isZero limit)
+unfoldable pub unusedLimitSet : ℕ → ℕ → List ℕ → Bool
+unusedLimitSet k from limit = ltb k from && not (isZero limit)
 
 -- a breach: not 25 bytes, an unknown gate kind, or an unused limit that is not zero bytes
 unfoldable pub isBroken : List ℕ → Bool
-isBroken s = not (eqb (length s) 25) || ltb 2 (kind s) || spoilt (kind s) 1 (low s) || spoilt (kind s) 2 (high s)
+isBroken s = not (eqb (length s) 25) || ltb 2 (kind s) || unusedLimitSet (kind s) 1 (low s) || unusedLimitSet (kind s) 2 (high s)
 
 -- what the bytes say
 unfoldable pub readOf : List ℕ → Read

@@ -1,2 +1,2 @@
 pub mod Body
-pub mod Judgement
+pub mod Pull

@@ -5,8 +5,8 @@ ghost use mathlib.Core.Path.{_≡_};
 ghost use lib.Ieee.{binary64, ofBits};
 ghost use lib.Ieee.Scale.{finite};
 ghost use Rattle.octets.specs.Parts.{field};
-ghost use Rattle.seal.specs.Judgement.{pullOf, badLimit, within, judgeOf, sealAnswer};
-ghost use Rattle.seal.specs.Body.{floatOf, spoilt, isBroken, gateOf, readOf};
+ghost use Rattle.seal.specs.Pull.{pullOf, badLimit, within, judgeOf, sealAnswer};
+ghost use Rattle.seal.specs.Body.{floatOf, unusedLimitSet, isBroken, gateOf, readOf};
 use refusals::Answer;
 
 // What the scanner was set to.
@@ -139,8 +139,8 @@ pub fn float_at(bytes: &[u8], at: usize) -> f64
 
 // Whether the limit at index at is not zero bytes though the gate does not use it. Low is used from
 // kind 1 on, high from kind 2 on.
-fn is_spoilt(bytes: &[u8], at: usize, kind: u8, from: u8) -> bool
-    ensures { λ r. ⌜ r ≡ spoilt kind from (field at 8 (now (bytes .entry))) ⌝ }
+fn is_unused_limit_set(bytes: &[u8], at: usize, kind: u8, from: u8) -> bool
+    ensures { λ r. ⌜ r ≡ unusedLimitSet kind from (field at 8 (now (bytes .entry))) ⌝ }
 {
     if from <= kind {
         return false;
@@ -158,10 +158,10 @@ fn is_broken(bytes: &[u8]) -> bool
     if 2 < kind {
         return true;
     }
-    if is_spoilt(bytes, 1, kind, 1) {
+    if is_unused_limit_set(bytes, 1, kind, 1) {
         return true;
     }
-    is_spoilt(bytes, 9, kind, 2)
+    is_unused_limit_set(bytes, 9, kind, 2)
 }
 
 // The kind is known: a broken body is refused before.

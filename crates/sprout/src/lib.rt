@@ -4,14 +4,14 @@
 ghost use mathlib.Core.Path.{_≡_};
 ghost use Prim.Native.Nat.{_<_};
 ghost use Rattle.units.specs.Pairs.{numberOf};
-ghost use Rattle.sprout.specs.Hashes.{macTag, rhoTag, withTag, hasTopBits, tagged as taggedOf, addressFrom, nullifierFrom, macFrom, rhoFrom, noteBytes, commitmentFrom, boundBytes, hSigFrom};
+ghost use Rattle.sprout.specs.Hashes.{macPrefix, rhoPrefix, withPrefix, hasTopBits, prefixed as taggedOf, addressFrom, nullifierFrom, macFrom, rhoFrom, noteBytes, commitmentFrom, boundBytes, hSigFrom};
 use units::Amount;
 use units::Which;
 
 // A key with a tag in the top four bits of its first byte.
 fn with_tag(tag: u8, key: &[u8; 32]) -> [u8; 32]
     requires { ⌜ tag < 16 ⌝ }
-    ensures { λ r. ⌜ r ≡ withTag tag (now (key .entry)) ⌝ }
+    ensures { λ r. ⌜ r ≡ withPrefix tag (now (key .entry)) ⌝ }
 {
     let mut k = *key;
     k[0] = tag * 16 + k[0] % 16;
@@ -49,7 +49,7 @@ pub fn nullifier(key: &[u8; 32], rho: &[u8; 32]) -> [u8; 32]
 
 // The tags of the first and the second of a pair.
 fn mac_tag(i: Which) -> u8
-    ensures { λ r. ⌜ (r ≡ macTag (numberOf i)) × (r < 16) ⌝ }
+    ensures { λ r. ⌜ (r ≡ macPrefix (numberOf i)) × (r < 16) ⌝ }
 {
     match i {
         Which::First => 0,
@@ -58,7 +58,7 @@ fn mac_tag(i: Which) -> u8
 }
 
 fn rho_tag(i: Which) -> u8
-    ensures { λ r. ⌜ (r ≡ rhoTag (numberOf i)) × (r < 16) ⌝ }
+    ensures { λ r. ⌜ (r ≡ rhoPrefix (numberOf i)) × (r < 16) ⌝ }
 {
     match i {
         Which::First => 2,

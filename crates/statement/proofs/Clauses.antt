@@ -9,15 +9,15 @@ use lib.ListN.{length, getD}
 use borrow.Author.Tests.{not-false}
 use Rattle.octets.specs.Parts.{same}
 use Rattle.octets.proofs.PartLaws.{same-eq, same-refl}
-use Rattle.refusals.specs.Table.{None, rowsIn, first, accepted}
-use Rattle.refusals.proofs.TableLaws.{by-test, first-none, none-first}
+use Rattle.refusals.specs.Rules.{None, rulesIn, first, accepted}
+use Rattle.refusals.proofs.RuleLaws.{by-test, first-none, none-first}
 use Rattle.refusals.proofs.Denials.{Denies, equal, at-most, below, either, both, testOf, fails, _&_}
 use Rattle.units.specs.Limits.{maxMoney, treeLeaves}
 use Rattle.units.specs.Pairs.{ForBoth}
 use Rattle.sprout.specs.Hashes.{hasTopBits, addressFrom, nullifierFrom, macFrom, rhoFrom, commitmentFrom}
 use Rattle.casefile.specs.Layout.{caseLength, proofLength}
 use Rattle.casefile.specs.Fields.{hasLength, vpubOldOf, vpubNewOf, anchorOf, nullifierOf, commitmentOf, tagOf, oldKeyOf, oldAddressOf, oldValueOf, oldRhoOf, oldPositionOf, newAddressOf, newValueOf, newRhoOf, newTrapdoorOf, phiOf}
-use Rattle.statement.specs.CaseTable.{bothPublic, aboveMoney, outOfRange, endsElsewhere, balanced, differs, pathEndOf, hSigOf, derivedRefusals, claimRefusals, no1, no4, no5, no7, no9, no10, no11, no12, no13, no14, no15, no16, rangeOf, straysOf, balancedOf, nullifierWrong, addressWrong, tagWrong, rhoWrong, commitmentWrong, witnessTable, caseTable}
+use Rattle.statement.specs.CaseRefusals.{bothPublic, aboveMoney, outOfRange, endsElsewhere, balanced, differs, pathEndOf, hSigOf, derivedRefusals, claimRefusals, no1, no4, no5, no7, no9, no10, no11, no12, no13, no14, no15, no16, rangeOf, straysOf, balancedOf, nullifierWrong, addressWrong, tagWrong, rhoWrong, commitmentWrong, witnessRefusals, caseRefusals}
 use Rattle.statement.proofs.Order.{case-numbered}
 
 pub record Clauses (c : List ℕ) : Type 0 where
@@ -58,10 +58,10 @@ unlike {s} {t} =
 
 module _ (c : List ℕ) where
   -- no row applies exactly when each clause holds
-  pub none-clauses : None (caseTable c) → Clauses c
-  unfolding testOf rowsIn hasLength bothPublic aboveMoney hasTopBits outOfRange endsElsewhere balanced differs no1 no4 no5 no7 no9 no10 no11 no12 no13 no14 no15 no16 rangeOf straysOf balancedOf nullifierWrong addressWrong tagWrong rhoWrong commitmentWrong derivedRefusals claimRefusals witnessTable caseTable
+  pub none-clauses : None (caseRefusals c) → Clauses c
+  unfolding testOf rulesIn hasLength bothPublic aboveMoney hasTopBits outOfRange endsElsewhere balanced differs no1 no4 no5 no7 no9 no10 no11 no12 no13 no14 no15 no16 rangeOf straysOf balancedOf nullifierWrong addressWrong tagWrong rhoWrong commitmentWrong derivedRefusals claimRefusals witnessRefusals caseRefusals
   none-clauses h =
-      let no = fails (caseTable c) h in
+      let no = fails (caseRefusals c) h in
       record {
         whole = equal .0 (no 1 0);
         one-sided = either equal equal .0 (no 4 0);
@@ -79,8 +79,8 @@ module _ (c : List ℕ) where
         commitments = (alike .0 (no 16 1), alike .0 (no 16 2));
       }
 
-  pub clauses-none : Clauses c → None (caseTable c)
-  unfolding None rowsIn hasLength bothPublic aboveMoney hasTopBits outOfRange endsElsewhere balanced differs no1 no4 no5 no7 no9 no10 no11 no12 no13 no14 no15 no16 rangeOf straysOf balancedOf nullifierWrong addressWrong tagWrong rhoWrong commitmentWrong derivedRefusals claimRefusals witnessTable caseTable
+  pub clauses-none : Clauses c → None (caseRefusals c)
+  unfolding None rulesIn hasLength bothPublic aboveMoney hasTopBits outOfRange endsElsewhere balanced differs no1 no4 no5 no7 no9 no10 no11 no12 no13 no14 no15 no16 rangeOf straysOf balancedOf nullifierWrong addressWrong tagWrong rhoWrong commitmentWrong derivedRefusals claimRefusals witnessRefusals caseRefusals
   clauses-none k =
       equal .1 (k .whole)
       & either equal equal .1 (k .one-sided)
@@ -106,8 +106,8 @@ module _ (c : List ℕ) where
       & tt
 
   -- THE THEOREM
-  pub accepted-clauses : first (caseTable c) .number ≡ 0 → Clauses c
-  accepted-clauses h = none-clauses (first-none (caseTable c) (case-numbered c) h)
+  pub accepted-clauses : first (caseRefusals c) .number ≡ 0 → Clauses c
+  accepted-clauses h = none-clauses (first-none (caseRefusals c) (case-numbered c) h)
 
-  pub clauses-accepted : Clauses c → first (caseTable c) ≡ accepted
-  clauses-accepted k = none-first (caseTable c) (clauses-none k)
+  pub clauses-accepted : Clauses c → first (caseRefusals c) ≡ accepted
+  clauses-accepted k = none-first (caseRefusals c) (clauses-none k)

@@ -10,12 +10,12 @@ use lib.ListN.{getD}
 use Rattle.octets.specs.Parts.{zeros, field, listed}
 use Rattle.octets.specs.Numbers.{little, littleBytes}
 use Rattle.refusals.specs.declared.Answer.{Answer}
-use Rattle.refusals.specs.Table.{first}
+use Rattle.refusals.specs.Rules.{first}
 use Rattle.sha256.specs.Compression.{compressOf}
-use Rattle.sprout.specs.Hashes.{addressTag, nullifierTag, macTag, rhoTag, withTag, hasTopBits, tagged, addressFrom, nullifierFrom, macFrom, rhoFrom}
-use Rattle.casefile.specs.Layout.{description, oldNote, newNote, lengths, total, offset, proofLength, partOf}
+use Rattle.sprout.specs.Hashes.{addressPrefix, nullifierPrefix, macPrefix, rhoPrefix, withPrefix, hasTopBits, prefixed, addressFrom, nullifierFrom, macFrom, rhoFrom}
+use Rattle.casefile.specs.Layout.{description, oldNoteLengths, newNoteLengths, lengths, total, offset, proofLength, partOf}
 use Rattle.casefile.specs.Fields.{vpubOldOf, vpubNewOf}
-use Rattle.statement.specs.CaseTable.{bothPublic, aboveMoney, outOfRange, balanced, no4, no5}
+use Rattle.statement.specs.CaseRefusals.{bothPublic, aboveMoney, outOfRange, balanced, no4, no5}
 
 -- each test passes
 every : List Bool → Bool
@@ -44,17 +44,17 @@ module _ (rest : List ℕ) where
   marked : List Bool
   marked =
       -- 1 the address
-      eqb (firstByte (withTag addressTag key)) 0xca
+      eqb (firstByte (withPrefix addressPrefix key)) 0xca
       -- 2 the nullifier
-      ∷ eqb (firstByte (withTag nullifierTag key)) 0xea
+      ∷ eqb (firstByte (withPrefix nullifierPrefix key)) 0xea
       -- 3 tag 1
-      ∷ eqb (firstByte (withTag (macTag 1) key)) 0x0a
+      ∷ eqb (firstByte (withPrefix (macPrefix 1) key)) 0x0a
       -- 4 tag 2
-      ∷ eqb (firstByte (withTag (macTag 2) key)) 0x4a
+      ∷ eqb (firstByte (withPrefix (macPrefix 2) key)) 0x4a
       -- 5 new rho 1
-      ∷ eqb (firstByte (withTag (rhoTag 1) phi)) 0x25
+      ∷ eqb (firstByte (withPrefix (rhoPrefix 1) phi)) 0x25
       -- 6 new rho 2
-      ∷ eqb (firstByte (withTag (rhoTag 2) phi)) 0x65
+      ∷ eqb (firstByte (withPrefix (rhoPrefix 2) phi)) 0x65
       -- 7 the highest public value is allowed, on either side
       ∷ answers (first (no5 (public 2100000000000000 0))) 0 0
       ∷ answers (first (no5 (public 0 2100000000000000))) 0 0
@@ -72,7 +72,7 @@ module _ (rest : List ℕ) where
       ∷ []
 
   all-marked : every marked ≡ true
-  unfolding every firstByte answers public key phi marked withTag hasTopBits first no4 no5 bothPublic aboveMoney outOfRange balanced vpubOldOf vpubNewOf partOf offset total lengths description oldNote newNote proofLength field listed little littleBytes
+  unfolding every firstByte answers public key phi marked withPrefix hasTopBits first no4 no5 bothPublic aboveMoney outOfRange balanced vpubOldOf vpubNewOf partOf offset total lengths description oldNoteLengths newNoteLengths proofLength field listed little littleBytes
   all-marked = refl
 
   -- 1 to 6 once more, of the hashes themselves: each compresses a block that begins so
@@ -81,15 +81,15 @@ module _ (rest : List ℕ) where
       × ((macFrom 1 key hSig ≡ compressOf ((0x0a ∷ rest) ++ hSig))
       × ((macFrom 2 key hSig ≡ compressOf ((0x4a ∷ rest) ++ hSig))
       × ((rhoFrom 1 phi hSig ≡ compressOf ((0x25 ∷ rest) ++ hSig)) × (rhoFrom 2 phi hSig ≡ compressOf ((0x65 ∷ rest) ++ hSig))))))
-  unfolding key phi withTag tagged addressFrom nullifierFrom macFrom rhoFrom
+  unfolding key phi withPrefix prefixed addressFrom nullifierFrom macFrom rhoFrom
   marked-blocks rho hSig = (refl, (refl, (refl, (refl, (refl, refl)))))
 
   -- THE TOP FOUR BITS of a key and of phi are dropped: with any of them set, each hash is that of the key without. n is those bits, x the four below
   topped : ℕ → ℕ → List ℕ
   topped n x = (16 * n + x) ∷ rest
 
-  dropped : (tag n x : ℕ) → x < 16 → withTag tag (topped n x) ≡ withTag tag (x ∷ rest)
-  unfolding withTag topped
+  dropped : (tag n x : ℕ) → x < 16 → withPrefix tag (topped n x) ≡ withPrefix tag (x ∷ rest)
+  unfolding withPrefix topped
   dropped tag n x h =
       let e : (16 * n + x) % 16 ≡ x % 16 = omega arith in
       rw e
@@ -97,6 +97,6 @@ module _ (rest : List ℕ) where
   marked-keys : (n x : ℕ) → x < 16 → (s : List ℕ) → (addressFrom (topped n x) ≡ addressFrom (x ∷ rest))
       × ((nullifierFrom (topped n x) s ≡ nullifierFrom (x ∷ rest) s)
       × (((i : ℕ) → macFrom i (topped n x) s ≡ macFrom i (x ∷ rest) s) × ((i : ℕ) → rhoFrom i (topped n x) s ≡ rhoFrom i (x ∷ rest) s)))
-  unfolding tagged addressFrom nullifierFrom macFrom rhoFrom
+  unfolding prefixed addressFrom nullifierFrom macFrom rhoFrom
   marked-keys n x h s =
-      (rw (dropped addressTag n x h), (rw (dropped nullifierTag n x h), (λ i. rw (dropped (macTag i) n x h), λ i. rw (dropped (rhoTag i) n x h))))
+      (rw (dropped addressPrefix n x h), (rw (dropped nullifierPrefix n x h), (λ i. rw (dropped (macPrefix i) n x h), λ i. rw (dropped (rhoPrefix i) n x h))))

@@ -12,17 +12,17 @@ use Rattle.units.specs.Pairs.{numberOf}
 use Rattle.nodes.specs.CommitmentTree.{parentOf}
 use Rattle.nodes.specs.Trees.{climbOf}
 use Rattle.tree.specs.Record.{pathEnd}
-use Rattle.casefile.specs.Layout.{description, oldNote, newNote, lengths, offset, proofLength, partOf, presentOf, ofOld}
+use Rattle.casefile.specs.Layout.{description, oldNoteLengths, newNoteLengths, lengths, offset, proofLength, partOf, presentOf, ofOld}
 use Rattle.casefile.specs.Fields.{oldPathOf}
 use Rattle.casefile.proofs.LayoutLaws.{present-field}
 
 path-bytes : (i : Which) (c : List ℕ) → field 0 928 (presentOf (ofOld (numberOf i) 6) c) ≡ oldPathOf (numberOf i) c
-unfolding oldPathOf description oldNote newNote lengths
+unfolding oldPathOf description oldNoteLengths newNoteLengths lengths
 path-bytes First c = present-field (ofOld 1 6) c
 path-bytes Second c = present-field (ofOld 2 6) c
 
 path-whole : (i : Which) (c : List ℕ) → field 0 928 (oldPathOf (numberOf i) c) ≡ oldPathOf (numberOf i) c
-unfolding oldPathOf partOf description oldNote newNote lengths
+unfolding oldPathOf partOf description oldNoteLengths newNoteLengths lengths
 path-whole First c = ap (λ (n : ℕ). field 0 n (oldPathOf 1 c)) (sym (field-length (offset (proofLength c) 21) 928 c)) ∙ field-all (oldPathOf 1 c)
 path-whole Second c = ap (λ (n : ℕ). field 0 n (oldPathOf 2 c)) (sym (field-length (offset (proofLength c) 28) 928 c)) ∙ field-all (oldPathOf 2 c)
 

@@ -4,10 +4,10 @@
 use Prim.Native.Nat.{ℕ}
 use mathlib.Core.Bool.{Bool}
 use mathlib.Core.List.{List}
-use Rattle.refusals.specs.Table.{Row, forEach}
+use Rattle.refusals.specs.Rules.{Rule, forEach}
 use Rattle.statement.specs.declared.Claim.{Claim}
 use Rattle.statement.specs.declared.Claim.the-variants.{Path, Nullifier, Address, Tag, Rho, Commitment}
-use Rattle.statement.specs.CaseTable.{straysOf, nullifierWrong, addressWrong, tagWrong, rhoWrong, commitmentWrong}
+use Rattle.statement.specs.CaseRefusals.{straysOf, nullifierWrong, addressWrong, tagWrong, rhoWrong, commitmentWrong}
 
 abbrev pub claimNumber : Claim → ℕ
 claimNumber Path = 10
@@ -25,5 +25,5 @@ claimWrong Tag hSig c i = tagWrong hSig c i
 claimWrong Rho hSig c i = rhoWrong hSig c i
 claimWrong Commitment hSig c i = commitmentWrong c i
 
-abbrev pub pairRefusals : Claim → List ℕ → List ℕ → List Row
+abbrev pub pairRefusals : Claim → List ℕ → List ℕ → List Rule
 pairRefusals claim hSig c = forEach (claimWrong claim hSig c) (claimNumber claim)

@@ -4,11 +4,11 @@
 ghost use mathlib.Core.Path.{_≡_};
 ghost use Prim.Native.Nat.{_+_, _*_, _^_, _<_};
 ghost use Rattle.units.specs.Pairs.{numberOf};
-ghost use Rattle.refusals.specs.Table.{first, rowsIn};
+ghost use Rattle.refusals.specs.Rules.{first, rulesIn};
 ghost use mathlib.Core.List.{[], _∷_};
 ghost use Rattle.casefile.specs.Fields.{anchorOf, oldValueOf};
 ghost use Rattle.statement.specs.Claims.{claimNumber, claimWrong, pairRefusals};
-ghost use Rattle.statement.specs.CaseTable.{no1, no4, no5, no7, no9, no10, no11, rangeOf, straysOf, balancedOf, nullifierWrong, addressWrong, tagWrong, rhoWrong, commitmentWrong, hSigOf, oldCommitmentOf, publicTable, witnessTable, claimRefusals, derivedRefusals, pathEndOf, endsElsewhere, differs as differsOf};
+ghost use Rattle.statement.specs.CaseRefusals.{no1, no4, no5, no7, no9, no10, no11, rangeOf, straysOf, balancedOf, nullifierWrong, addressWrong, tagWrong, rhoWrong, commitmentWrong, hSigOf, oldCommitmentOf, publicRefusals, witnessRefusals, claimRefusals, derivedRefusals, pathEndOf, endsElsewhere, differs as differsOf};
 use refusals::Answer;
 use units::Amount;
 use units::Which;
@@ -52,7 +52,7 @@ fn public_amounts(case: &[u8]) -> Answer
 
 // 4 and 5: what the two public values must satisfy.
 pub fn public_values(case: &[u8]) -> Answer
-    ensures { λ r. ⌜ r ≡ first (rowsIn (no4 (now (case .entry)) ∷ no5 (now (case .entry)) ∷ [])) ⌝ }
+    ensures { λ r. ⌜ r ≡ first (rulesIn (no4 (now (case .entry)) ∷ no5 (now (case .entry)) ∷ [])) ⌝ }
 {
     let a4 = one_sided(case);
     if !a4.is_accepted() {
@@ -318,7 +318,7 @@ fn paths(case: &[u8]) -> Answer
 
 // 12 to 16: what is claimed of keys, notes and the transaction.
 fn derived(case: &[u8]) -> Answer
-    ensures { λ r. ⌜ r ≡ first (rowsIn (derivedRefusals (now (case .entry)))) ⌝ }
+    ensures { λ r. ⌜ r ≡ first (rulesIn (derivedRefusals (now (case .entry)))) ⌝ }
 {
     let h = h_sig(case);
     let a12 = pair(case, Claim::Nullifier, &h);
@@ -342,7 +342,7 @@ fn derived(case: &[u8]) -> Answer
 
 // 11 to 16: the balance, and what is derived.
 pub fn claims(case: &[u8]) -> Answer
-    ensures { λ r. ⌜ r ≡ first (rowsIn (claimRefusals (now (case .entry)))) ⌝ }
+    ensures { λ r. ⌜ r ≡ first (rulesIn (claimRefusals (now (case .entry)))) ⌝ }
 {
     let a11 = balance(case);
     if !a11.is_accepted() {
@@ -353,7 +353,7 @@ pub fn claims(case: &[u8]) -> Answer
 
 // 9 to 16: what the notes and keys must satisfy.
 pub fn witness(case: &[u8]) -> Answer
-    ensures { λ r. ⌜ r ≡ first (rowsIn (witnessTable (now (case .entry)))) ⌝ }
+    ensures { λ r. ⌜ r ≡ first (rulesIn (witnessRefusals (now (case .entry)))) ⌝ }
 {
     let a9 = ranges(case);
     if !a9.is_accepted() {
@@ -368,7 +368,7 @@ pub fn witness(case: &[u8]) -> Answer
 
 // 1, 4, 5 and 7: what the public part must satisfy.
 pub fn public_part(case: &[u8]) -> Answer
-    ensures { λ r. ⌜ r ≡ first (rowsIn (publicTable (now (case .entry)))) ⌝ }
+    ensures { λ r. ⌜ r ≡ first (rulesIn (publicRefusals (now (case .entry)))) ⌝ }
 {
     let a1 = length(case);
     if !a1.is_accepted() {

@@ -6,7 +6,7 @@ use mathlib.Core.List.{List, [], _∷_, _++_, append-assoc}
 use lib.ListN.{length, drop}
 use lib.Seq.{drop-append-seam}
 use Rattle.refusals.specs.declared.Answer.{Answer}
-use Rattle.refusals.specs.Table.{answer}
+use Rattle.refusals.specs.Rules.{answer}
 use Rattle.text.specs.Words.{ascii, nameLine}
 use Rattle.text.specs.Decimal.{decimal}
 use Rattle.text.specs.Answers.{answerWords, answerLine}

@@ -3,7 +3,7 @@
 use mathlib.Core.Path.{_≡_, refl}
 use mathlib.Core.List.{[], _∷_, flatMap}
 use Rattle.octets.specs.Numbers.{bigBytes}
-use Rattle.refusals.specs.Table.{answer}
+use Rattle.refusals.specs.Rules.{answer}
 use Rattle.text.specs.Words.{ascii}
 use Rattle.text.specs.Decimal.{decimal, decimalWithin}
 use Rattle.text.specs.Hex.{hexDigit, hexByte, hex, hex64}

@@ -7,7 +7,7 @@ use lib.ListN.{take}
 use Rattle.text.specs.Words.{ascii, nameLine}
 use Rattle.text.specs.Decimal.{decimal, decimalWithin}
 use Rattle.text.specs.Answers.{answerWords, answerLine}
-use Rattle.scanning.specs.Setting.{freshScan}
+use Rattle.scanning.specs.FreshLedger.{freshScan}
 use Rattle.scanning.specs.Lines.{linesOf}
 use Rattle.tray.specs.declared.Next.the-variants.{Bag, Name, End, Broken}
 use Rattle.tray.specs.Tray.{linesFor}

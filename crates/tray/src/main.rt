@@ -6,11 +6,11 @@
 ghost use mathlib.Core.Path.{_≡_};
 ghost use Prim.Native.Nat.{_≤_};
 ghost use lib.ListN.{length};
-ghost use Rattle.refusals.specs.Table.{answer};
+ghost use Rattle.refusals.specs.Rules.{answer};
 ghost use Rattle.text.specs.Words.{ascii, nameLine};
 ghost use Rattle.text.specs.Answers.{answerLine};
 ghost use Rattle.text.specs.Pen.{Rendered};
-ghost use Rattle.tray.specs.Tray.{Whole, goesOn, linesFor};
+ghost use Rattle.tray.specs.Tray.{Whole, moreMayFollow, linesFor};
 use libc::STDIN_FILENO;
 use refusals::Answer;
 
@@ -72,7 +72,7 @@ fn read_next(buffer: &mut [u8]) -> Next
 }
 
 fn goes_on(next: Next) -> bool
-    ensures { λ r. ⌜ r ≡ goesOn next ⌝ }
+    ensures { λ r. ⌜ r ≡ moreMayFollow next ⌝ }
 {
     match next {
         Next::Bag(_) => true,

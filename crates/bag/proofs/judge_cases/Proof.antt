@@ -22,7 +22,7 @@ loop-holds c =
     let a = s .args in
     let k = kept (a .bag .now) (s .pre) in
     let n = q .row-count .ensures in
-    (search needs, (omega (arith, k .some, n), (omega (arith, k .few, n), (refl, (refl, start (a .bag .now) (a .table .now) (a .roll .now) (a .start) (q .row-count .result) (c .refused .result) (c .refused .ensures) n)))))
+    (search needs, (omega (arith, k .some, n), (omega (arith, k .few, n), (refl, (refl, start (a .bag .now) (a .table .now) (a .roll .now) (a .start) (q .row-count .result) (c .not-given .result) (c .not-given .ensures) n)))))
 
 body-requires : tie.Need-body-requires Inv-loop μ-loop
 body-requires c κs =

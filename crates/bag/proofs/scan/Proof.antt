@@ -1,4 +1,4 @@
-use Rattle.seal.specs.Judgement.{sealAnswer}
+use Rattle.seal.specs.Pull.{sealAnswer}
 use mathlib.Core.Path.{sym, ap, _∙_}
 use borrow.Author.Tests.{not-true, not-false}
 use Rattle.bag.proofs.Outcomes.{has-layout, broken, stopped, passed}
@@ -32,7 +32,7 @@ returns-2 c =
     let s = q .before .before in
     let a = s .before .before .before .before .before .args in
     let g = broken (a .calibration) (a .bag .now) (a .table .now) (a .roll .now) (a .ledger) (sym (s .seal-in .ensures) ∙ q .enum-told .given .1) in
-    (c .unjudged .ensures ∙ rw (c .before .before .refused .ensures, c .before .refused2 .ensures) (g .result), g .table)
+    (c .unjudged .ensures ∙ rw (c .before .before .refused .ensures, c .before .not-given .ensures) (g .result), g .table)
 
 returns-3 : tie.Need-returns-3
 returns-3 c =

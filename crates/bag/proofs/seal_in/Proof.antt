@@ -1,7 +1,7 @@
 use native.Mathlib.Omega.{arith}
 use mathlib.Core.Path.{sym, _∙_}
 use borrow.Author.Tests.{not-true, not-false}
-use Rattle.bag.specs.Scanning.{sealIn}
+use Rattle.bag.specs.SealAndCases.{sealIn}
 use Rattle.bag.proofs.OrderLaws.{kept}
 use borrow.Author.Needs.{needs}
 use Rattle.bag.proofs.seal_in.Statement.{statement}

@@ -53,7 +53,7 @@ use Rattle.units.proofs.Row.index.Symbol as index-def
 use Rattle.units.proofs.Row.index.Symbol.{name as #units·index}
 use Rattle.units.proofs.Row.index.Met as index-thm
 use Rattle.books.specs.declared.DayRow.{DayRow}
-use Rattle.books.specs.DayList.{isOn, entered as list-entered}
+use Rattle.books.specs.DayList.{isOn, withDayRow as list-entered}
 use Rattle.books.proofs.DayRow as T
 use Rattle.books.proofs.DayRow.Laws as T′
 use Rattle.books.proofs.DayLaws.{entered-on, entered-past}

@@ -1,5 +1,5 @@
 use mathlib.Core.Path.{refl, _∙_}
-use Rattle.casefile.specs.Layout.{description, oldNote, newNote, lengths, total, offset, proofLength, partOf}
+use Rattle.casefile.specs.Layout.{description, oldNoteLengths, newNoteLengths, lengths, total, offset, proofLength, partOf}
 use Rattle.casefile.specs.Fields.{newRhoOf}
 use Rattle.casefile.proofs.Places.{paired}
 use borrow.Author.Needs.{needs}
@@ -7,7 +7,7 @@ use Rattle.casefile.proofs.new_rho.Statement.{statement}
 use Rattle.casefile.proofs.new_rho.Tie as tie
 
 returns : tie.Need-returns
-unfolding newRhoOf description oldNote newNote lengths total offset proofLength partOf
+unfolding newRhoOf description oldNoteLengths newNoteLengths lengths total offset proofLength partOf
 returns c =
     let a = c .before .before .before .args in
     c .part32 .ensures ∙ paired (λ i. newRhoOf i (a .case .now)) 4010 104 32 (a .case .now) refl refl (a .i) _ (c .before .spot .ensures)

@@ -1,5 +1,5 @@
 use mathlib.Core.Path.{refl, _∙_}
-use Rattle.casefile.specs.Layout.{description, oldNote, newNote, lengths, total, offset, proofLength, partOf}
+use Rattle.casefile.specs.Layout.{description, oldNoteLengths, newNoteLengths, lengths, total, offset, proofLength, partOf}
 use Rattle.casefile.specs.Fields.{oldKeyOf}
 use Rattle.casefile.proofs.Places.{paired}
 use borrow.Author.Needs.{needs}
@@ -7,7 +7,7 @@ use Rattle.casefile.proofs.old_key.Statement.{statement}
 use Rattle.casefile.proofs.old_key.Tie as tie
 
 returns : tie.Need-returns
-unfolding oldKeyOf description oldNote newNote lengths total offset proofLength partOf
+unfolding oldKeyOf description oldNoteLengths newNoteLengths lengths total offset proofLength partOf
 returns c =
     let a = c .before .before .before .args in
     c .part32 .ensures ∙ paired (λ i. oldKeyOf i (a .case .now)) 1834 1068 32 (a .case .now) refl refl (a .i) _ (c .before .spot .ensures)

@@ -1,6 +1,6 @@
 use mathlib.Core.Path.{refl, ap, _∙_}
 use Rattle.octets.specs.Numbers.{little}
-use Rattle.casefile.specs.Layout.{description, oldNote, newNote, lengths, total, offset, proofLength, partOf, ofOld}
+use Rattle.casefile.specs.Layout.{description, oldNoteLengths, newNoteLengths, lengths, total, offset, proofLength, partOf, ofOld}
 use Rattle.casefile.specs.Fields.{oldValueOf}
 use Rattle.casefile.proofs.Places.{paired}
 use borrow.Author.Needs.{needs}
@@ -8,7 +8,7 @@ use Rattle.casefile.proofs.old_value.Statement.{statement}
 use Rattle.casefile.proofs.old_value.Tie as tie
 
 returns : tie.Need-returns
-unfolding oldValueOf description oldNote newNote lengths total offset proofLength partOf
+unfolding oldValueOf description oldNoteLengths newNoteLengths lengths total offset proofLength partOf
 returns c =
     let n = c .before in
     let a = n .before .before .before .args in

@@ -1,12 +1,12 @@
 use mathlib.Core.Path.{_∙_}
-use Rattle.casefile.specs.Layout.{description, oldNote, newNote, lengths, total, offset, proofLength, partOf}
+use Rattle.casefile.specs.Layout.{description, oldNoteLengths, newNoteLengths, lengths, total, offset, proofLength, partOf}
 use Rattle.casefile.specs.Fields.{vpubNewOf}
 use borrow.Author.Needs.{needs}
 use Rattle.casefile.proofs.vpub_new.Statement.{statement}
 use Rattle.casefile.proofs.vpub_new.Tie as tie
 
 returns : tie.Need-returns
-unfolding vpubNewOf description oldNote newNote lengths total offset proofLength partOf
+unfolding vpubNewOf description oldNoteLengths newNoteLengths lengths total offset proofLength partOf
 returns c = c .of .ensures ∙ c .before .le64 .ensures
 
 pub vpub-new-spec : {M : Type 1} → statement M

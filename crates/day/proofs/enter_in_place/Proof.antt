@@ -53,7 +53,7 @@ use Rattle.units.specs.declared.Row.{Row}
 use Rattle.units.proofs.Row as N
 use Rattle.units.proofs.Row.Laws as N′
 use Rattle.books.specs.declared.DayRow.{DayRow}
-use Rattle.books.specs.DayList.{isOn, entered as list-entered}
+use Rattle.books.specs.DayList.{isOn, withDayRow as list-entered}
 use Rattle.books.proofs.DayRow as T
 use Rattle.books.proofs.DayRow.Laws as T′
 use Rattle.books.proofs.enter as enter

@@ -6,7 +6,7 @@ use Rattle.text.specs.Pen.{pen}
 use Rattle.text.proofs.PenLaws.{text-as}
 use Rattle.books.specs.declared.Tally.{Tally}
 use Rattle.day.specs.declared.Page.{Page}
-use Rattle.day.specs.Lines.{row, dayLines, entries, wholeDay}
+use Rattle.day.specs.Lines.{rowWith, dayLines, entries, wholeDay}
 use Rattle.day.proofs.LineLaws.{SoFar, none-yet, one-entry, no-more, entries-seven}
 use borrow.Author.Needs.{needs}
 use Rattle.day.proofs.put_day.Statement.{statement}
@@ -20,7 +20,7 @@ abbrev μ-loop : tie.MeasureT-loop
 
 loop-holds : tie.Need-loop-holds Inv-loop μ-loop
 unfolding wholeDay
-loop-holds c = (search needs, (refl, none-yet _ (ap (λ (t : Tally). dayLines entries (replicate 4 (row 0 0 0)) t) (c .empty .ensures))))
+loop-holds c = (search needs, (refl, none-yet _ (ap (λ (t : Tally). dayLines entries (replicate 4 (rowWith 0 0 0)) t) (c .empty .ensures))))
 
 loop-again : tie.Need-loop-again Inv-loop μ-loop
 loop-again c =

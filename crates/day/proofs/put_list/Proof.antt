@@ -6,14 +6,14 @@ use lib.ListN.{length, take}
 use lib.Seq.{take-all}
 use Rattle.text.specs.Pen.{pen, Wrote}
 use Rattle.text.proofs.PenLaws.{start, one-more, text-as}
-use Rattle.day.specs.Lines.{rowLine}
+use Rattle.day.specs.Lines.{dayRowLine}
 use borrow.Author.Needs.{needs}
 use Rattle.day.proofs.put_list.Statement.{statement}
 use Rattle.day.proofs.put_list.Tie as tie
 
 abbrev Inv-loop : tie.InvT-loop
 Inv-loop out₀ at rows next₀ i₀ out next i =
-    (i ≤ 4) × ((length rows ≡ 4) × ((length out ≡ length out₀) × Wrote (67 * i) (flatMap rowLine (take i rows)) (pen out₀ at) (pen out next)))
+    (i ≤ 4) × ((length rows ≡ 4) × ((length out ≡ length out₀) × Wrote (67 * i) (flatMap dayRowLine (take i rows)) (pen out₀ at) (pen out next)))
 
 abbrev μ-loop : tie.MeasureT-loop
 μ-loop out₀ at rows next₀ i₀ out next i = 4 - i
@@ -29,14 +29,14 @@ loop-again c =
     let s = q .before .before in
     let v = q .loop .inv in
     let h : q .loop .i < length (s .args .t3) = omega arith in
-    (search needs, (v .1 .0, (k .put-row .kept .0 ∙ v .1 .1 .0, one-more rowLine (s .args .t3) (q .loop .i) _ h (v .1 .1 .1) (k .put-row .ensures))))
+    (search needs, (v .1 .0, (k .put-row .kept .0 ∙ v .1 .1 .0, one-more dayRowLine (s .args .t3) (q .loop .i) _ h (v .1 .1 .1) (k .put-row .ensures))))
 
 returns : tie.Need-returns Inv-loop μ-loop
 returns c =
     let q = c .before in
     let s = q .before .before in
     let v = q .loop .inv in
-    text-as (omega arith) (ap (flatMap rowLine) (take-all (q .loop .i) (s .args .t3) (omega arith))) (v .1 .1 .1)
+    text-as (omega arith) (ap (flatMap dayRowLine) (take-all (q .loop .i) (s .args .t3) (omega arith))) (v .1 .1 .1)
 
 pub put-list-spec : {M : Type 1} → statement M
 put-list-spec =

@@ -4,25 +4,25 @@ use native.Mathlib.Omega.{arith}
 use lib.ListN.{length}
 use borrow.Author.Tests.{eq-eqb, eqb-true, ne-eqb, not-true, not-false}
 use Rattle.octets.proofs.Joining.{start, next, done}
-use Rattle.refusals.specs.Table.{isAccepted}
-use Rattle.ledgerbytes.specs.Keeping.{isWhole, written}
+use Rattle.refusals.specs.Rules.{isAccepted}
+use Rattle.ledgerbytes.specs.LedgerBytes.{isWhole, bufferAfterWrite}
 use Rattle.seal.specs.declared.Calibration.{Calibration}
-use Rattle.bag.specs.Scanning.{scannedOf}
+use Rattle.bag.specs.SealAndCases.{scannedOf}
 use Rattle.host.specs.Answers.{isLong}
-use Rattle.host.specs.Bags.{ownAnswer, scanOf, bagAnswer, bagLedger, bagTable, bagReport}
+use Rattle.host.specs.Bags.{ownAnswer, scanOf, bagAnswer, ledgerAfterBagCall, tableAfterBagCall, reportAfterBagCall}
 use borrow.Author.Needs.{needs}
 use Rattle.host.proofs.snaldrek_proved_bag.Statement.{statement}
 use Rattle.host.proofs.snaldrek_proved_bag.Tie as tie
 
 returns : tie.Need-returns
-unfolding bagAnswer bagLedger bagTable bagReport
+unfolding bagAnswer ledgerAfterBagCall tableAfterBagCall reportAfterBagCall
 returns c =
     let p = c .before .before in
     let h = ne-eqb (length (p .before .before .before .before .before .before .args .ledger .now)) 988 (p .if1 .taken) in
     (c .code .ensures ∙ rw (c .before .refused .ensures, h), (rw h, (rw h, rw h)))
 
 returns-2 : tie.Need-returns-2
-unfolding bagAnswer bagLedger bagTable bagReport
+unfolding bagAnswer ledgerAfterBagCall tableAfterBagCall reportAfterBagCall
 returns-2 c =
     let q = c .before .before in
     let a = q .before .before .before .before .before .before .before .args in
@@ -42,7 +42,7 @@ scanned c =
     )
 
 returns-3 : tie.Need-returns-3
-unfolding bagAnswer bagLedger bagTable bagReport
+unfolding bagAnswer ledgerAfterBagCall tableAfterBagCall reportAfterBagCall
 returns-3 c =
     let k = c .before .before in
     let o = k .before in
@@ -59,7 +59,7 @@ report-long : (c : tie.After-report-of) → length (c .report-of .result) ≡ 32
 report-long c = search needs
 
 returns-4 : tie.Need-returns-4
-unfolding bagAnswer bagLedger bagTable bagReport written
+unfolding bagAnswer ledgerAfterBagCall tableAfterBagCall reportAfterBagCall bufferAfterWrite
 returns-4 c =
     let y = c .before .before .before in
     let w = y .before .before .before .before .before in

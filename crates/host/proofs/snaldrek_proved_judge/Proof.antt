@@ -2,22 +2,22 @@ use mathlib.Core.Path.{_∙_}
 use native.Mathlib.Omega.{arith}
 use lib.ListN.{length}
 use borrow.Author.Tests.{eq-eqb, ne-eqb}
-use Rattle.ledgerbytes.specs.Keeping.{written}
+use Rattle.ledgerbytes.specs.LedgerBytes.{bufferAfterWrite}
 use Rattle.judge.specs.Judging.{keptAfter}
-use Rattle.host.specs.Ledgers.{judgeAnswer, judgeLedger, judgeTable}
+use Rattle.host.specs.Ledgers.{judgeAnswer, ledgerAfterJudgeCall, tableAfterJudgeCall}
 use borrow.Author.Needs.{needs}
 use Rattle.host.proofs.snaldrek_proved_judge.Statement.{statement}
 use Rattle.host.proofs.snaldrek_proved_judge.Tie as tie
 
 returns : tie.Need-returns
-unfolding judgeAnswer judgeLedger judgeTable
+unfolding judgeAnswer ledgerAfterJudgeCall tableAfterJudgeCall
 returns c =
     let p = c .before .before in
     let h = ne-eqb (length (p .before .before .before .before .before .args .ledger .now)) 988 (p .if1 .taken) in
     (c .code .ensures ∙ rw (c .before .refused .ensures, h), (rw h, rw h))
 
 returns-2 : tie.Need-returns-2
-unfolding judgeAnswer judgeLedger judgeTable keptAfter written
+unfolding judgeAnswer ledgerAfterJudgeCall tableAfterJudgeCall keptAfter bufferAfterWrite
 returns-2 c =
     let j = c .before .before .before .before .before in
     let a = j .before .before .before .before .before .before .before .before .args in

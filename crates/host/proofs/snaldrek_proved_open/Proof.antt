@@ -2,21 +2,21 @@ use mathlib.Core.Path.{_∙_}
 use native.Mathlib.Omega.{arith}
 use lib.ListN.{length}
 use borrow.Author.Tests.{eq-eqb, ne-eqb}
-use Rattle.ledgerbytes.specs.Keeping.{written}
-use Rattle.host.specs.Ledgers.{openAnswer, openRoll}
+use Rattle.ledgerbytes.specs.LedgerBytes.{bufferAfterWrite}
+use Rattle.host.specs.Ledgers.{openAnswer, rollAfterOpenCall}
 use borrow.Author.Needs.{needs}
 use Rattle.host.proofs.snaldrek_proved_open.Statement.{statement}
 use Rattle.host.proofs.snaldrek_proved_open.Tie as tie
 
 returns : tie.Need-returns
-unfolding openAnswer openRoll written
+unfolding openAnswer rollAfterOpenCall bufferAfterWrite
 returns c =
     let p = c .before .before in
     let h = ne-eqb (length (p .before .before .before .args .ledger .now)) 988 (p .if1 .taken) in
     (c .code .ensures ∙ rw (c .before .refused .ensures, h), (rw h, rw h))
 
 returns-2 : tie.Need-returns-2
-unfolding openAnswer openRoll
+unfolding openAnswer rollAfterOpenCall
 returns-2 c =
     let w = c .before .before .before in
     let o = w .before .before .before .before in

@@ -1,6 +1,6 @@
 use mathlib.Core.Path.{sym, _∙_}
 use borrow.Author.Tests.{not-true, not-false}
-use Rattle.ledgerbytes.specs.Keeping.{bare}
+use Rattle.ledgerbytes.specs.LedgerBytes.{bare}
 use Rattle.judge.proofs.Outcomes.{length-decides, front-decides, witness-decides}
 use borrow.Author.Needs.{needs}
 use Rattle.judge.proofs.answered.Statement.{statement}

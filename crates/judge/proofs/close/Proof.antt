@@ -1,8 +1,8 @@
 use mathlib.Core.Path.{_≡_, sym, ap, _∙_}
 use mathlib.Core.Bool.{true}
 use borrow.Author.Tests.{not-true, not-false}
-use Rattle.refusals.specs.Table.{first, isAccepted}
-use Rattle.ledger.specs.Ledgers.{closeTable}
+use Rattle.refusals.specs.Rules.{first, isAccepted}
+use Rattle.ledger.specs.Ledgers.{closeRefusals}
 use Rattle.ledger.proofs.Endings.{close-refused, close-passed}
 use Rattle.judge.proofs.Bare.{closing-bare, close-free}
 use borrow.Author.Needs.{needs}
@@ -11,7 +11,7 @@ use Rattle.judge.proofs.close.Tie as tie
 
 -- the answer is that of the whole ledger
 decided : (c : tie.After-closing) → let a = c .before .before .before .before .before .args in
-    c .closing .result ≡ first (closeTable (a .table .now) (a .roll .now) (a .ledger))
+    c .closing .result ≡ first (closeRefusals (a .table .now) (a .roll .now) (a .ledger))
 decided c =
     let a = c .before .before .before .before .before .args in
     c .closing .ensures ∙ closing-bare (a .table .now) (a .roll .now) (a .ledger) _ (c .before .counts-of .ensures)
@@ -25,7 +25,7 @@ returns c =
     (d, (no .0, no .1))
 
 accepts : (c : tie.Else1) → let a = c .before .before .before .before .before .before .before .args in
-    isAccepted (first (closeTable (a .table .now) (a .roll .now) (a .ledger))) ≡ true
+    isAccepted (first (closeRefusals (a .table .now) (a .roll .now) (a .ledger))) ≡ true
 accepts c = ap isAccepted (sym (decided (c .before .before))) ∙ sym (c .before .is-accepted .ensures) ∙ not-false _ (c .if1 .left)
 
 closed-requires : tie.Need-closed-requires

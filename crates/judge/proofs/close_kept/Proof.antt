@@ -3,12 +3,12 @@ use mathlib.Core.Bool.{true}
 use Prim.Native.Nat.{_+_, _*_}
 use borrow.Author.Tests.{not-true, not-false}
 use Rattle.octets.specs.Parts.{pasted}
-use Rattle.refusals.specs.Table.{first, isAccepted}
+use Rattle.refusals.specs.Rules.{first, isAccepted}
 use Rattle.tree.specs.Record.{recordRoot}
 use Rattle.ledger.specs.declared.Ledger.{Ledger}
-use Rattle.ledger.specs.Ledgers.{closeTable, closedOf}
+use Rattle.ledger.specs.Ledgers.{closeRefusals, closedOf}
 use Rattle.ledger.proofs.Endings.{close-refused, close-passed}
-use Rattle.ledgerbytes.specs.Keeping.{ledgerOf, written}
+use Rattle.ledgerbytes.specs.LedgerBytes.{ledgerOf, bufferAfterWrite}
 use Rattle.judge.proofs.Bare.{closing-bare, close-free}
 use Rattle.judge.proofs.Outcomes.{refused-kept, accepted-kept}
 use borrow.Author.Needs.{needs}
@@ -17,7 +17,7 @@ use Rattle.judge.proofs.close_kept.Tie as tie
 
 -- the answer is that of the ledger that the bytes say
 decided : (c : tie.After-closing) → let a = c .before .before .before .before .before .before .before .args in
-    c .closing .result ≡ first (closeTable (a .table .now) (a .roll .now) (ledgerOf (a .kept .now)))
+    c .closing .result ≡ first (closeRefusals (a .table .now) (a .roll .now) (ledgerOf (a .kept .now)))
 decided c =
     let a = c .before .before .before .before .before .before .before .args in
     c .closing .ensures ∙ closing-bare (a .table .now) (a .roll .now) (ledgerOf (a .kept .now)) _ (c .before .read-counts .ensures)
@@ -32,7 +32,7 @@ returns c =
     (d, (close-refused (a .table .now) (a .roll .now) l no .1, refused-kept _ (closedOf (a .table .now) (a .roll .now) l) (a .kept .now) no))
 
 accepts : (c : tie.Else1) → let a = c .before .before .before .before .before .before .before .before .before .args in
-    isAccepted (first (closeTable (a .table .now) (a .roll .now) (ledgerOf (a .kept .now)))) ≡ true
+    isAccepted (first (closeRefusals (a .table .now) (a .roll .now) (ledgerOf (a .kept .now)))) ≡ true
 accepts c = ap isAccepted (sym (decided (c .before .before))) ∙ sym (c .before .is-accepted .ensures) ∙ not-false _ (c .if1 .left)
 
 closed-requires : tie.Need-closed-requires
@@ -54,7 +54,7 @@ returns-2 c =
       decided (p .before .before),
       (
         e .closed .ensures .1 ∙ ap (λ (x : Ledger). pasted (x .anchors * 32) (recordRoot (x .tree)) (a .roll .now)) (r .read .ensures) ∙ yes .1,
-        w .write .ensures .1 ∙ ap (λ (x : Ledger). written x (a .kept .now)) next ∙ accepted-kept _ (closedOf (a .table .now) (a .roll .now) l) (a .kept .now) (accepts p),
+        w .write .ensures .1 ∙ ap (λ (x : Ledger). bufferAfterWrite x (a .kept .now)) next ∙ accepted-kept _ (closedOf (a .table .now) (a .roll .now) l) (a .kept .now) (accepts p),
       ),
     )
 

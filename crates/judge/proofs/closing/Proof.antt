@@ -5,28 +5,28 @@ use native.Mathlib.Omega.{arith}
 use borrow.Author.Tests.{le-leb, lt-leb}
 use lib.Dec.{leb}
 use lib.ListN.{length}
-use Rattle.refusals.specs.Table.{Row, row, first, numbered}
-use Rattle.refusals.proofs.TableLaws.{stops, goes-on, last-group, one-holds, one-fails}
-use Rattle.ledger.specs.Ledgers.{mostAnchors, roomIn, no2, closeTable}
-use Rattle.ledgerbytes.specs.Keeping.{bare}
+use Rattle.refusals.specs.Rules.{Rule, rule, first, numbered}
+use Rattle.refusals.proofs.RuleLaws.{stops, goes-on, last-group, one-holds, one-fails}
+use Rattle.ledger.specs.Ledgers.{mostAnchors, roomIn, no2, closeRefusals}
+use Rattle.ledgerbytes.specs.LedgerBytes.{bare}
 use borrow.Author.Needs.{needs}
 use Rattle.judge.proofs.closing.Statement.{statement}
 use Rattle.judge.proofs.closing.Tie as tie
 
 -- the roll's own refusal, and what is left to decide once the ledger is sound
-abbrev full : List ℕ → ℕ → List Row
-full r a = row (leb (roomIn mostAnchors (length r)) a) 3 0 ∷ []
+abbrev full : List ℕ → ℕ → List Rule
+full r a = rule (leb (roomIn mostAnchors (length r)) a) 3 0 ∷ []
 
 rest : (c : tie.Else1) → let a = c .before .before .before .before .before .args in
-    first (closeTable (a .table .now) (a .roll .now) (bare (a .counts))) ≡ first (full (a .roll .now) (a .counts .anchors))
-unfolding closeTable numbered no2
+    first (closeRefusals (a .table .now) (a .roll .now) (bare (a .counts))) ≡ first (full (a .roll .now) (a .counts .anchors))
+unfolding closeRefusals numbered no2
 rest c =
     let a = c .before .before .before .before .before .args in
     goes-on (no2 (a .table .now) (a .roll .now) (bare (a .counts))) (full (a .roll .now) (a .counts .anchors) ∷ []) _ _ (c .before .before .sound .ensures) (c .before .is-accepted .ensures) refl (c .if1 .left)
     ∙ sym (last-group (full (a .roll .now) (a .counts .anchors)))
 
 returns : tie.Need-returns
-unfolding closeTable
+unfolding closeRefusals
 returns c =
     let s = c .before .before in
     let a = s .before .before .before .args in

@@ -1,7 +1,7 @@
 use mathlib.Core.Path.{_≡_, sym, ap, _∙_}
 use mathlib.Core.Bool.{true}
 use borrow.Author.Tests.{not-true, not-false, eqb-true}
-use Rattle.refusals.specs.Table.{isAccepted}
+use Rattle.refusals.specs.Rules.{isAccepted}
 use Rattle.judge.specs.Judging.{answerOf}
 use Rattle.judge.proofs.Bare.{answered-bare}
 use Rattle.judge.proofs.Outcomes.{accepted-front, refused-ledger, refused-table, accepted-ledger, accepted-table, judged}

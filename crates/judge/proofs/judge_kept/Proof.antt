@@ -1,13 +1,13 @@
 use mathlib.Core.Path.{_≡_, sym, ap, _∙_}
 use mathlib.Core.Bool.{true}
 use borrow.Author.Tests.{not-true, not-false, eqb-true}
-use Rattle.refusals.specs.Table.{isAccepted}
+use Rattle.refusals.specs.Rules.{isAccepted}
 use Rattle.casefile.specs.Fields.{vpubOldOf, vpubNewOf, nullifierOf, commitmentOf}
 use Rattle.ledger.specs.declared.Ledger.{Ledger}
-use Rattle.ledger.specs.Rows.{entered}
+use Rattle.ledger.specs.Rows.{tableWithTwo}
 use Rattle.ledger.specs.Ledgers.{enteredOf}
-use Rattle.ledgerbytes.specs.Keeping.{ledgerOf, written}
-use Rattle.judge.specs.Judging.{answerOf, ledgerAfter}
+use Rattle.ledgerbytes.specs.LedgerBytes.{ledgerOf, bufferAfterWrite}
+use Rattle.judge.specs.Judging.{answerOf, ledgerAfterCase}
 use Rattle.judge.proofs.Bare.{answered-bare}
 use Rattle.judge.proofs.Outcomes.{accepted-front, refused-table, accepted-ledger, accepted-table, refused-kept, accepted-kept}
 use Rattle.judge.proofs.Readiness.{ready}
@@ -29,7 +29,7 @@ returns c =
     let l = ledgerOf (a .kept .now) in
     let d = decided q in
     let no = ap isAccepted (sym d) ∙ sym (c .before .is-accepted .ensures) ∙ not-true _ (c .if1 .taken) in
-    (d, (sym (refused-table (a .case .now) (a .table .now) (a .roll .now) l no), refused-kept _ (ledgerAfter (a .case .now) (a .table .now) (a .roll .now) l) (a .kept .now) no))
+    (d, (sym (refused-table (a .case .now) (a .table .now) (a .roll .now) l no), refused-kept _ (ledgerAfterCase (a .case .now) (a .table .now) (a .roll .now) l) (a .kept .now) no))
 
 accepts : (c : tie.Else1) → let a = c .before .before .before .before .before .before .before .before .before .before .args in
     isAccepted (answerOf (a .case .now) (a .table .now) (a .roll .now) (ledgerOf (a .kept .now))) ≡ true
@@ -56,10 +56,10 @@ returns-2 c =
     ∙ ap (λ (x : Ledger). enteredOf x (commitmentOf 1 case) (commitmentOf 2 case) (vpubOldOf case) (vpubNewOf case)) (r .read .ensures)
     ∙ sym (accepted-ledger case (a .table .now) (a .roll .now) l (accepts p)) in
     let rows = e .entered .ensures .1
-    ∙ ap (λ (x : Ledger). entered (x .nullifiers) (a .table .now) (nullifierOf 1 case) (nullifierOf 2 case)) (r .read .ensures)
+    ∙ ap (λ (x : Ledger). tableWithTwo (x .nullifiers) (a .table .now) (nullifierOf 1 case) (nullifierOf 2 case)) (r .read .ensures)
     ∙ sym (accepted-table case (a .table .now) (a .roll .now) l (accepts p)) in (
       decided (p .before .before),
-      (rows, w .write .ensures .1 ∙ ap (λ (x : Ledger). written x (a .kept .now)) next ∙ accepted-kept _ (ledgerAfter case (a .table .now) (a .roll .now) l) (a .kept .now) (accepts p)),
+      (rows, w .write .ensures .1 ∙ ap (λ (x : Ledger). bufferAfterWrite x (a .kept .now)) next ∙ accepted-kept _ (ledgerAfterCase case (a .table .now) (a .roll .now) l) (a .kept .now) (accepts p)),
     )
 
 pub judge-kept-spec : {M : Type 1} → statement M

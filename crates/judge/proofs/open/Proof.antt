@@ -5,18 +5,18 @@ use native.Mathlib.Omega.{arith}
 use borrow.Author.Tests.{eq-eqb, ne-eqb}
 use lib.ListN.{length}
 use Rattle.octets.specs.Parts.{pasted}
-use Rattle.refusals.specs.Table.{isAccepted}
-use Rattle.refusals.proofs.TableLaws.{one-holds, one-fails}
+use Rattle.refusals.specs.Rules.{isAccepted}
+use Rattle.refusals.proofs.RuleLaws.{one-holds, one-fails}
 use Rattle.nodes.specs.CommitmentTree.{parentOf, emptyLeaf, emptyRoot, treeRoot}
 use Rattle.nodes.proofs.TreeLaws.{root-empty}
-use Rattle.ledger.specs.Ledgers.{mostAnchors, roomIn, openTable}
+use Rattle.ledger.specs.Ledgers.{mostAnchors, roomIn, openRefusals}
 use Rattle.ledger.proofs.Endings.{open-refused, open-passed}
 use borrow.Author.Needs.{needs}
 use Rattle.judge.proofs.open.Statement.{statement}
 use Rattle.judge.proofs.open.Tie as tie
 
 returns : tie.Need-returns
-unfolding openTable
+unfolding openRefusals
 returns c =
     let f = c .before in
     let p = f .before .before in
@@ -27,7 +27,7 @@ returns c =
     (f .refused .ensures ∙ all, (c .start .ensures ∙ no .0, no .1))
 
 returns-2 : tie.Need-returns-2
-unfolding openTable treeRoot emptyRoot
+unfolding openRefusals treeRoot emptyRoot
 returns-2 c =
     let ok = c .before in
     let i = ok .before .before .before in

@@ -1,13 +1,13 @@
 use lib.IntN.{pos}
 use Rattle.tree.specs.declared.Tree.{Tree}
 use mathlib.Core.Path.{ap}
-use Rattle.ledger.specs.Ledgers.{startOf}
+use Rattle.ledger.specs.Ledgers.{emptyLedger}
 use borrow.Author.Needs.{needs}
 use Rattle.judge.proofs.start.Statement.{statement}
 use Rattle.judge.proofs.start.Tie as tie
 
 returns : tie.Need-returns
-unfolding startOf
+unfolding emptyLedger
 returns c = ap (λ (t : Tree). record { nullifiers = 0; anchors = c .before .args .anchors; tree = t; pool = record { 0 = pos 0 } }) (c .fresh .ensures)
 
 pub start-spec : {M : Type 1} → statement M

@@ -7,7 +7,7 @@ use lib.Signed.{ltZ}
 use mir.Syntax.{w64}
 use mir.Facts.{toZ-ofZ}
 use borrow.Author.Tests.{ltb-true}
-use Rattle.ledgerbytes.specs.Keeping.{bitsOf}
+use Rattle.ledgerbytes.specs.LedgerBytes.{bitsOf}
 use borrow.Author.Needs.{needs}
 use Rattle.ledgerbytes.proofs.bits.Statement.{statement}
 use Rattle.ledgerbytes.proofs.bits.Tie as tie

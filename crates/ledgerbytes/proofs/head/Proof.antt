@@ -3,7 +3,7 @@ use native.Mathlib.Omega.{arith}
 use lib.ListN.{length}
 use Rattle.octets.proofs.NumberLaws.{little-bytes-length}
 use Rattle.octets.proofs.Joining.{start, next, done}
-use Rattle.ledgerbytes.specs.Keeping.{headOf}
+use Rattle.ledgerbytes.specs.LedgerBytes.{headOf}
 use borrow.Author.Needs.{needs}
 use Rattle.ledgerbytes.proofs.head.Statement.{statement}
 use Rattle.ledgerbytes.proofs.head.Tie as tie

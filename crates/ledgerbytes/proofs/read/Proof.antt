@@ -1,4 +1,4 @@
-use Rattle.ledgerbytes.specs.Keeping.{ledgerOf}
+use Rattle.ledgerbytes.specs.LedgerBytes.{ledgerOf}
 use borrow.Author.Needs.{needs}
 use Rattle.ledgerbytes.proofs.read.Statement.{statement}
 use Rattle.ledgerbytes.proofs.read.Tie as tie

@@ -1,6 +1,6 @@
 use mir.Syntax.{w64}
 use mir.Facts.{toZ-ofZ}
-use Rattle.ledgerbytes.specs.Keeping.{ledgerOf}
+use Rattle.ledgerbytes.specs.LedgerBytes.{ledgerOf}
 use borrow.Author.Needs.{needs}
 use Rattle.ledgerbytes.proofs.read_counts.Statement.{statement}
 use Rattle.ledgerbytes.proofs.read_counts.Tie as tie

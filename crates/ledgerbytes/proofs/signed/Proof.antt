@@ -5,7 +5,7 @@ use lib.IntN.{pos, negsuc, _-ℤ_}
 use mir.Syntax.{w64}
 use mir.Facts.{toZ-ofZ, toZ-pos}
 use borrow.Author.Tests.{lt-ltb, le-ltb}
-use Rattle.ledgerbytes.specs.Keeping.{signedOf}
+use Rattle.ledgerbytes.specs.LedgerBytes.{signedOf}
 use borrow.Author.Needs.{needs}
 use Rattle.ledgerbytes.proofs.signed.Statement.{statement}
 use Rattle.ledgerbytes.proofs.signed.Tie as tie

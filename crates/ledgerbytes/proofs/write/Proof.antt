@@ -3,13 +3,13 @@ use native.Mathlib.Omega.{arith}
 use lib.ListN.{length}
 use borrow.Author.Tests.{eq-eqb, ne-eqb}
 use Rattle.octets.proofs.Joining.{start, next, done}
-use Rattle.ledgerbytes.specs.Keeping.{bytesOf, written}
+use Rattle.ledgerbytes.specs.LedgerBytes.{ledgerBytes, bufferAfterWrite}
 use borrow.Author.Needs.{needs}
 use Rattle.ledgerbytes.proofs.write.Statement.{statement}
 use Rattle.ledgerbytes.proofs.write.Tie as tie
 
 returns : tie.Need-returns
-unfolding written
+unfolding bufferAfterWrite
 returns c =
     let b = c .before .before .args .bytes .now in
     let h = ne-eqb (length b) 988 (c .if1 .taken) in
@@ -19,7 +19,7 @@ nodes-long : (c : tie.Start) → length (c .args .ledger .tree .nodes) ≡ 960
 nodes-long c = search needs
 
 returns-2 : tie.Need-returns-2
-unfolding written bytesOf
+unfolding bufferAfterWrite ledgerBytes
 returns-2 c =
     let c2 = c .before .before in
     let c1 = c2 .before .before .before .before .before in

@@ -1,10 +1,10 @@
-use Rattle.ledger.specs.Ledgers.{startOf}
+use Rattle.ledger.specs.Ledgers.{emptyLedger}
 use borrow.Author.Needs.{needs}
 use Rattle.replay.proofs.nothing.Statement.{statement}
 use Rattle.replay.proofs.nothing.Tie as tie
 
 returns : tie.Need-returns
-unfolding startOf
+unfolding emptyLedger
 returns c = cc (c .fresh .ensures)
 
 pub nothing-spec : {M : Type 1} → statement M

@@ -1,6 +1,6 @@
 use mathlib.Core.List.{List}
-use Rattle.refusals.specs.Table.{first}
-use Rattle.ledger.specs.Ledgers.{openTable, openedOf, rollAfterOpen}
+use Rattle.refusals.specs.Rules.{first}
+use Rattle.ledger.specs.Ledgers.{openRefusals, openedOf, rollAfterOpen}
 use mathlib.Core.Path.{ap, _∙_}
 use Prim.Native.Nat.{ℕ}
 use borrow.Author.Needs.{needs}
@@ -13,7 +13,7 @@ returns c =
     let r = o .before .before .before .before in
     let t = r .before .before .before .before in
     let e = r .clear2 .ensures in (
-      o .«open» .ensures .0 ∙ ap (λ (l : List ℕ). first (openTable l)) e,
+      o .«open» .ensures .0 ∙ ap (λ (l : List ℕ). first (openRefusals l)) e,
       (o .«open» .ensures .1 .0 ∙ ap openedOf e, (t .clear .ensures, o .«open» .ensures .1 .1 ∙ ap rollAfterOpen e)),
     )
 

@@ -1,6 +1,6 @@
 use mathlib.Core.Path.{_≡_, refl}
 use lib.ListN.{length}
-use Rattle.replay.specs.Tape.{Within}
+use Rattle.replay.specs.Tape.{LentWithin}
 use Rattle.replay.proofs.TurnLaws.{within-as, nowhere}
 use borrow.Author.Needs.{needs}
 use Rattle.replay.proofs.play.Statement.{statement}
@@ -8,7 +8,7 @@ use Rattle.replay.proofs.play.Tie as tie
 
 abbrev Inv-loop : tie.InvT-loop
 Inv-loop buffer₀ table₀ roll₀ out₀ state₀ turns₀ buffer table roll out state turns =
-    (length buffer ≡ length buffer₀) × ((length table ≡ length table₀) × ((length roll ≡ length roll₀) × ((length out ≡ length out₀) × Within state table roll)))
+    (length buffer ≡ length buffer₀) × ((length table ≡ length table₀) × ((length roll ≡ length roll₀) × ((length out ≡ length out₀) × LentWithin state table roll)))
 
 abbrev μ-loop : tie.MeasureT-loop
 μ-loop buffer₀ table₀ roll₀ out₀ state₀ turns₀ buffer table roll out state turns = turns

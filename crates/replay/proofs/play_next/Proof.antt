@@ -3,7 +3,7 @@ use native.Mathlib.Omega.{arith}
 use lib.Seq.{length-take-le}
 use Rattle.text.proofs.PenLaws.{start}
 use Rattle.replay.specs.declared.Next.{Next}
-use Rattle.replay.specs.Tape.{nextTurn, lengthOf}
+use Rattle.replay.specs.Tape.{nextTurn, entryLength}
 use Rattle.replay.proofs.TurnLaws.{plays-as, nowhere, plays, plays-broken}
 use borrow.Author.Needs.{needs}
 use Rattle.replay.proofs.play_next.Statement.{statement}
@@ -36,7 +36,7 @@ slice-aggregate-run : tie.Need-slice-aggregate-run
 slice-aggregate-run c =
     let n = c .before .before in
     let s = n .before .before .before .before .before .before in
-    let e : lengthOf (s .args .next) ≡ n .next .given .0 .1 .0 = ap lengthOf (n .next .given .1) in
+    let e : entryLength (s .args .next) ≡ n .next .given .0 .1 .0 = ap entryLength (n .next .given .1) in
     sym (length-take-le _ _ (omega (arith, s .pre .0)))
 
 pub play-next-spec : {M : Type 1} → statement M

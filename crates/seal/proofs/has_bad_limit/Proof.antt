@@ -1,6 +1,6 @@
 use mathlib.Core.Path.{sym, _∙_}
 use borrow.Author.Tests.{not-true, not-false}
-use Rattle.seal.specs.Judgement.{badLimit}
+use Rattle.seal.specs.Pull.{badLimit}
 use borrow.Author.Needs.{needs}
 use Rattle.seal.proofs.has_bad_limit.Statement.{statement}
 use Rattle.seal.proofs.has_bad_limit.Tie as tie

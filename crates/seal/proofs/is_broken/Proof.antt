@@ -15,11 +15,11 @@ returns-2 c = simp (eq-eqb _ _ (c .before .before .if1 .left), lt-ltb _ _ (c .if
 
 returns-3 : tie.Need-returns-3
 unfolding isBroken
-returns-3 c = simp (eq-eqb _ _ (c .before .before .before .before .if1 .left), le-ltb _ _ (c .before .before .if2 .left), sym (c .before .is-spoilt .ensures) ∙ c .if3 .taken)
+returns-3 c = simp (eq-eqb _ _ (c .before .before .before .before .if1 .left), le-ltb _ _ (c .before .before .if2 .left), sym (c .before .is-unused-limit-set .ensures) ∙ c .if3 .taken)
 
 returns-4 : tie.Need-returns-4
 unfolding isBroken
-returns-4 c = simp (eq-eqb _ _ (c .before .before .before .before .before .if1 .left), le-ltb _ _ (c .before .before .before .if2 .left), sym (c .before .before .is-spoilt .ensures) ∙ c .before .if3 .left, c .is-spoilt2 .ensures)
+returns-4 c = simp (eq-eqb _ _ (c .before .before .before .before .before .if1 .left), le-ltb _ _ (c .before .before .before .if2 .left), sym (c .before .before .is-unused-limit-set .ensures) ∙ c .before .if3 .left, c .is-unused-limit-set2 .ensures)
 
 pub is-broken-spec : {M : Type 1} → statement M
 is-broken-spec =

@@ -1,4 +1,4 @@
-use Rattle.seal.specs.Judgement.{within}
+use Rattle.seal.specs.Pull.{within}
 use borrow.Author.Needs.{needs}
 use Rattle.seal.proofs.is_within.Statement.{statement}
 use Rattle.seal.proofs.is_within.Tie as tie

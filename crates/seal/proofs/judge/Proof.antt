@@ -1,6 +1,6 @@
 use mathlib.Core.Path.{sym, ap, _∙_}
 use borrow.Author.Tests.{not-true, not-false}
-use Rattle.seal.specs.Judgement.{atGate, judgeOf}
+use Rattle.seal.specs.Pull.{atGate, judgeOf}
 use Rattle.seal.proofs.PullLaws.{bad-limit, not-finite, not-within, passes}
 use borrow.Author.Needs.{needs}
 use Rattle.seal.proofs.judge.Statement.{statement}

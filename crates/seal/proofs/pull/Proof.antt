@@ -1,5 +1,5 @@
 use mathlib.Core.Path.{refl}
-use Rattle.seal.specs.Judgement.{pullOf}
+use Rattle.seal.specs.Pull.{pullOf}
 use Rattle.seal.proofs.pull.Statement.{statement}
 use Rattle.seal.proofs.pull.Tie as tie
 

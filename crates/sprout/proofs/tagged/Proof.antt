@@ -2,13 +2,13 @@ use mathlib.Core.Path.{ap, _∙_}
 use mathlib.Core.List.{List, _++_}
 use Prim.Native.Nat.{ℕ}
 use Rattle.sha256.specs.Compression.{compressOf}
-use Rattle.sprout.specs.Hashes.{tagged}
+use Rattle.sprout.specs.Hashes.{prefixed}
 use borrow.Author.Needs.{needs}
 use Rattle.sprout.proofs.tagged.Statement.{statement}
 use Rattle.sprout.proofs.tagged.Tie as tie
 
 returns : tie.Need-returns
-unfolding tagged
+unfolding prefixed
 returns c =
     let w = c .before .before in
     c .compress-halves .ensures ∙ ap (λ (k : List ℕ). compressOf (k ++ w .before .args .rest .now)) (w .with-tag .ensures)

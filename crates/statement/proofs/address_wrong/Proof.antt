@@ -1,4 +1,4 @@
-use Rattle.statement.specs.CaseTable.{addressWrong}
+use Rattle.statement.specs.CaseRefusals.{addressWrong}
 use borrow.Author.Needs.{needs}
 use Rattle.statement.proofs.address_wrong.Statement.{statement}
 use Rattle.statement.proofs.address_wrong.Tie as tie

@@ -1,7 +1,7 @@
 use mathlib.Core.Path.{sym, ap, _∙_}
 use mathlib.Core.Bool.{not}
-use Rattle.statement.specs.CaseTable.{balancedOf, no11}
-use Rattle.refusals.proofs.TableLaws.{one-holds, one-fails}
+use Rattle.statement.specs.CaseRefusals.{balancedOf, no11}
+use Rattle.refusals.proofs.RuleLaws.{one-holds, one-fails}
 use borrow.Author.Needs.{needs}
 use Rattle.statement.proofs.balance.Statement.{statement}
 use Rattle.statement.proofs.balance.Tie as tie

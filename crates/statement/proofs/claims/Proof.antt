@@ -1,7 +1,7 @@
 use mathlib.Core.Path.{refl, sym, _∙_}
-use Rattle.refusals.specs.Table.{numbered}
-use Rattle.refusals.proofs.TableLaws.{stops, goes-on}
-use Rattle.statement.specs.CaseTable.{no11, derivedRefusals, claimRefusals}
+use Rattle.refusals.specs.Rules.{numbered}
+use Rattle.refusals.proofs.RuleLaws.{stops, goes-on}
+use Rattle.statement.specs.CaseRefusals.{no11, derivedRefusals, claimRefusals}
 use borrow.Author.Needs.{needs}
 use Rattle.statement.proofs.claims.Statement.{statement}
 use Rattle.statement.proofs.claims.Tie as tie

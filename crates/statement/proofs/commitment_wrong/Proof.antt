@@ -1,4 +1,4 @@
-use Rattle.statement.specs.CaseTable.{commitmentWrong}
+use Rattle.statement.specs.CaseRefusals.{commitmentWrong}
 use borrow.Author.Needs.{needs}
 use Rattle.statement.proofs.commitment_wrong.Statement.{statement}
 use Rattle.statement.proofs.commitment_wrong.Tie as tie

@@ -2,11 +2,11 @@
 use mathlib.Core.Path.{_≡_, refl, sym, ap, _∙_}
 use mathlib.Core.List.{List, [], _∷_}
 use Prim.Native.Nat.{ℕ}
-use Rattle.refusals.specs.Table.{first, rowsIn, numbered}
-use Rattle.refusals.proofs.TableLaws.{stops, goes-on, last-group}
+use Rattle.refusals.specs.Rules.{first, rulesIn, numbered}
+use Rattle.refusals.proofs.RuleLaws.{stops, goes-on, last-group}
 use Rattle.statement.specs.declared.Claim.the-variants.{Tag, Rho}
 use Rattle.statement.specs.Claims.{pairRefusals}
-use Rattle.statement.specs.CaseTable.{no12, no13, no14, no15, no16, derivedRefusals}
+use Rattle.statement.specs.CaseRefusals.{no12, no13, no14, no15, no16, derivedRefusals}
 use borrow.Author.Needs.{needs}
 use Rattle.statement.proofs.derived.Statement.{statement}
 use Rattle.statement.proofs.derived.Tie as tie
@@ -26,27 +26,27 @@ H4 c = H3 (c .before .before .before .before)
 abbrev caseOf : tie.After-h-sig → List ℕ
 caseOf h = h .before .before .args .case .now
 
-rest1 : (c : tie.Else1) → let case = caseOf (H1 c) in first (rowsIn (derivedRefusals case)) ≡ first (rowsIn (no13 case ∷ no14 case ∷ no15 case ∷ no16 case ∷ []))
+rest1 : (c : tie.Else1) → let case = caseOf (H1 c) in first (rulesIn (derivedRefusals case)) ≡ first (rulesIn (no13 case ∷ no14 case ∷ no15 case ∷ no16 case ∷ []))
 unfolding derivedRefusals numbered no12
 rest1 c =
     let case = caseOf (H1 c) in
     goes-on (no12 case) (no13 case ∷ no14 case ∷ no15 case ∷ no16 case ∷ []) _ _ (c .before .before .pair .ensures) (c .before .is-accepted .ensures) refl (c .if1 .left)
 
-rest2 : (c : tie.Else2) → let case = caseOf (H2 c) in first (rowsIn (derivedRefusals case)) ≡ first (rowsIn (no14 case ∷ no15 case ∷ no16 case ∷ []))
+rest2 : (c : tie.Else2) → let case = caseOf (H2 c) in first (rulesIn (derivedRefusals case)) ≡ first (rulesIn (no14 case ∷ no15 case ∷ no16 case ∷ []))
 unfolding derivedRefusals numbered no13
 rest2 c =
     let case = caseOf (H2 c) in
     rest1 (c .before .before .before .before)
     ∙ goes-on (no13 case) (no14 case ∷ no15 case ∷ no16 case ∷ []) _ _ (c .before .before .pair2 .ensures) (c .before .is-accepted2 .ensures) refl (c .if2 .left)
 
-rest3 : (c : tie.Else3) → let case = caseOf (H3 c) in first (rowsIn (derivedRefusals case)) ≡ first (rowsIn (no15 case ∷ no16 case ∷ []))
+rest3 : (c : tie.Else3) → let case = caseOf (H3 c) in first (rulesIn (derivedRefusals case)) ≡ first (rulesIn (no15 case ∷ no16 case ∷ []))
 unfolding derivedRefusals numbered no14
 rest3 c =
     let case = caseOf (H3 c) in
     rest2 (c .before .before .before .before)
     ∙ goes-on (no14 case) (no15 case ∷ no16 case ∷ []) _ _ (c .before .before .pair3 .ensures ∙ ap (λ (h : List ℕ). first (pairRefusals Tag h case)) (H3 c .h-sig .ensures)) (c .before .is-accepted3 .ensures) refl (c .if3 .left)
 
-rest4 : (c : tie.Else4) → let case = caseOf (H4 c) in first (rowsIn (derivedRefusals case)) ≡ first (rowsIn (no16 case ∷ []))
+rest4 : (c : tie.Else4) → let case = caseOf (H4 c) in first (rulesIn (derivedRefusals case)) ≡ first (rulesIn (no16 case ∷ []))
 unfolding derivedRefusals numbered no15
 rest4 c =
     let case = caseOf (H4 c) in

@@ -1,6 +1,6 @@
 use mathlib.Core.Path.{ap}
 use mathlib.Core.Bool.{not}
-use Rattle.statement.specs.CaseTable.{differs}
+use Rattle.statement.specs.CaseRefusals.{differs}
 use borrow.Author.Needs.{needs}
 use Rattle.statement.proofs.differ.Statement.{statement}
 use Rattle.statement.proofs.differ.Tie as tie

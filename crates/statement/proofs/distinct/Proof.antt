@@ -2,8 +2,8 @@ use mathlib.Core.Path.{_≡_, _∙_}
 use mathlib.Core.Bool.{true, false}
 use Rattle.octets.specs.Parts.{same}
 use Rattle.casefile.specs.Fields.{nullifierOf}
-use Rattle.statement.specs.CaseTable.{no7}
-use Rattle.refusals.proofs.TableLaws.{one-holds, one-fails}
+use Rattle.statement.specs.CaseRefusals.{no7}
+use Rattle.refusals.proofs.RuleLaws.{one-holds, one-fails}
 use borrow.Author.Needs.{needs}
 use Rattle.statement.proofs.distinct.Statement.{statement}
 use Rattle.statement.proofs.distinct.Tie as tie

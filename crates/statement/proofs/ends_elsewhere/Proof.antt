@@ -6,7 +6,7 @@ use lib.Dec.{eqb}
 use Rattle.octets.specs.Parts.{same}
 use Rattle.units.specs.Pairs.{numberOf}
 use Rattle.casefile.specs.Fields.{oldValueOf}
-use Rattle.statement.specs.CaseTable.{endsElsewhere, differs}
+use Rattle.statement.specs.CaseRefusals.{endsElsewhere, differs}
 use borrow.Author.Needs.{needs}
 use Rattle.statement.proofs.ends_elsewhere.Statement.{statement}
 use Rattle.statement.proofs.ends_elsewhere.Tie as tie

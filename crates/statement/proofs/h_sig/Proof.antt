@@ -1,4 +1,4 @@
-use Rattle.statement.specs.CaseTable.{hSigOf}
+use Rattle.statement.specs.CaseRefusals.{hSigOf}
 use borrow.Author.Needs.{needs}
 use Rattle.statement.proofs.h_sig.Statement.{statement}
 use Rattle.statement.proofs.h_sig.Tie as tie

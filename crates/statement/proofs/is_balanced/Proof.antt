@@ -2,7 +2,7 @@ use mathlib.Core.Path.{_≡_}
 use Prim.Native.Nat.{_+_, _*_, _^_}
 use native.Mathlib.Omega.{arith}
 use Rattle.casefile.specs.Fields.{vpubOldOf, vpubNewOf, oldValueOf, newValueOf}
-use Rattle.statement.specs.CaseTable.{balancedOf, balanced}
+use Rattle.statement.specs.CaseRefusals.{balancedOf, balanced}
 use Rattle.statement.proofs.TestLaws.{wholes-decide, rests-decide}
 use borrow.Author.Needs.{needs}
 use Rattle.statement.proofs.is_balanced.Statement.{statement}

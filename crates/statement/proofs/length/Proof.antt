@@ -1,8 +1,8 @@
 use mathlib.Core.Path.{sym, ap, _∙_}
 use mathlib.Core.Bool.{not}
 use Rattle.casefile.specs.Fields.{hasLength}
-use Rattle.statement.specs.CaseTable.{no1}
-use Rattle.refusals.proofs.TableLaws.{one-holds, one-fails}
+use Rattle.statement.specs.CaseRefusals.{no1}
+use Rattle.refusals.proofs.RuleLaws.{one-holds, one-fails}
 use borrow.Author.Needs.{needs}
 use Rattle.statement.proofs.length.Statement.{statement}
 use Rattle.statement.proofs.length.Tie as tie

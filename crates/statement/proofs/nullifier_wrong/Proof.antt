@@ -1,4 +1,4 @@
-use Rattle.statement.specs.CaseTable.{nullifierWrong}
+use Rattle.statement.specs.CaseRefusals.{nullifierWrong}
 use borrow.Author.Needs.{needs}
 use Rattle.statement.proofs.nullifier_wrong.Statement.{statement}
 use Rattle.statement.proofs.nullifier_wrong.Tie as tie

@@ -1,4 +1,4 @@
-use Rattle.statement.specs.CaseTable.{oldCommitmentOf}
+use Rattle.statement.specs.CaseRefusals.{oldCommitmentOf}
 use borrow.Author.Needs.{needs}
 use Rattle.statement.proofs.old_commitment.Statement.{statement}
 use Rattle.statement.proofs.old_commitment.Tie as tie

@@ -3,8 +3,8 @@ use Prim.Native.Nat.{ℕ}
 use mathlib.Core.Bool.{true, false, not, and-false}
 use lib.Dec.{eqb}
 use Rattle.casefile.specs.Fields.{vpubOldOf, vpubNewOf}
-use Rattle.statement.specs.CaseTable.{no4, bothPublic}
-use Rattle.refusals.proofs.TableLaws.{one-holds, one-fails}
+use Rattle.statement.specs.CaseRefusals.{no4, bothPublic}
+use Rattle.refusals.proofs.RuleLaws.{one-holds, one-fails}
 use borrow.Author.Needs.{needs}
 use Rattle.statement.proofs.one_sided.Statement.{statement}
 use Rattle.statement.proofs.one_sided.Tie as tie

@@ -7,7 +7,7 @@ use Rattle.sprout.specs.Hashes.{hasTopBits}
 use Rattle.casefile.specs.Fields.{oldKeyOf, oldPositionOf}
 use Rattle.statement.proofs.TestLaws.{not-ltb}
 use mathlib.Core.Path.{_≡_, sym, ap, _∙_}
-use Rattle.statement.specs.CaseTable.{rangeOf, outOfRange}
+use Rattle.statement.specs.CaseRefusals.{rangeOf, outOfRange}
 use borrow.Author.Needs.{needs}
 use Rattle.statement.proofs.out_of_range.Statement.{statement}
 use Rattle.statement.proofs.out_of_range.Tie as tie

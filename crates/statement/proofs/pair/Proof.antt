@@ -1,8 +1,8 @@
 -- Each return of the code is one of three laws over any pair of tests: the first applies, the second does, or none.
 use mathlib.Core.Path.{sym, ap, _∙_}
 use Prim.Native.Nat.{ℕ}
-use Rattle.refusals.specs.Table.{answer}
-use Rattle.refusals.proofs.TableLaws.{each-first, each-second, each-none}
+use Rattle.refusals.specs.Rules.{answer}
+use Rattle.refusals.proofs.RuleLaws.{each-first, each-second, each-none}
 use Rattle.statement.specs.Claims.{claimWrong, claimNumber}
 use borrow.Author.Needs.{needs}
 use Rattle.statement.proofs.pair.Statement.{statement}

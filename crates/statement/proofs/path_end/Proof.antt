@@ -3,7 +3,7 @@ use Rattle.units.specs.Pairs.{numberOf}
 use Rattle.tree.specs.Record.{pathEnd}
 use Rattle.casefile.specs.Layout.{presentOf, ofOld}
 use Rattle.casefile.specs.Fields.{oldPositionOf}
-use Rattle.statement.specs.CaseTable.{oldCommitmentOf, pathEndOf}
+use Rattle.statement.specs.CaseRefusals.{oldCommitmentOf, pathEndOf}
 use Rattle.statement.proofs.PathLaws.{same-end}
 use borrow.Author.Needs.{needs}
 use Rattle.statement.proofs.path_end.Statement.{statement}

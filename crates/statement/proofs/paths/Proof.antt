@@ -1,4 +1,4 @@
-use Rattle.statement.specs.CaseTable.{no10}
+use Rattle.statement.specs.CaseRefusals.{no10}
 use borrow.Author.Needs.{needs}
 use Rattle.statement.proofs.paths.Statement.{statement}
 use Rattle.statement.proofs.paths.Tie as tie

@@ -4,8 +4,8 @@ use mathlib.Core.Bool.{Bool, true, false, not}
 use lib.Dec.{leb}
 use Rattle.units.specs.Limits.{maxMoney}
 use Rattle.casefile.specs.Fields.{vpubOldOf, vpubNewOf}
-use Rattle.statement.specs.CaseTable.{no5, aboveMoney}
-use Rattle.refusals.specs.Table.{first}
+use Rattle.statement.specs.CaseRefusals.{no5, aboveMoney}
+use Rattle.refusals.specs.Rules.{first}
 use Rattle.statement.proofs.TestLaws.{not-leb}
 use borrow.Author.Needs.{needs}
 use Rattle.statement.proofs.public_amounts.Statement.{statement}

@@ -1,8 +1,8 @@
 use mathlib.Core.Path.{_≡_, refl, sym, _∙_}
 use mathlib.Core.List.{[], _∷_}
-use Rattle.refusals.specs.Table.{first, rowsIn, numbered}
-use Rattle.refusals.proofs.TableLaws.{stops, goes-on, run-stops, run-goes-on, last-group}
-use Rattle.statement.specs.CaseTable.{no1, no4, no5, no7, publicTable}
+use Rattle.refusals.specs.Rules.{first, rulesIn, numbered}
+use Rattle.refusals.proofs.RuleLaws.{stops, goes-on, run-stops, run-goes-on, last-group}
+use Rattle.statement.specs.CaseRefusals.{no1, no4, no5, no7, publicRefusals}
 use borrow.Author.Needs.{needs}
 use Rattle.statement.proofs.public_part.Statement.{statement}
 use Rattle.statement.proofs.public_part.Tie as tie
@@ -10,14 +10,14 @@ use Rattle.statement.proofs.public_part.Tie as tie
 abbrev S1 : tie.Else1 → tie.Start
 S1 c = c .before .before .before .before
 
-rest1 : (c : tie.Else1) → let case = S1 c .args .case .now in first (rowsIn (publicTable case)) ≡ first (rowsIn (no4 case ∷ no5 case ∷ no7 case ∷ []))
-unfolding publicTable numbered no1
+rest1 : (c : tie.Else1) → let case = S1 c .args .case .now in first (rulesIn (publicRefusals case)) ≡ first (rulesIn (no4 case ∷ no5 case ∷ no7 case ∷ []))
+unfolding publicRefusals numbered no1
 rest1 c =
     let case = S1 c .args .case .now in
     goes-on (no1 case) (no4 case ∷ no5 case ∷ no7 case ∷ []) _ _ (c .before .before .length .ensures) (c .before .is-accepted .ensures) refl (c .if1 .left)
 
 returns : tie.Need-returns
-unfolding publicTable
+unfolding publicRefusals
 returns c =
     let case = c .before .before .before .before .args .case .now in
     stops (no1 case) (no4 case ∷ no5 case ∷ no7 case ∷ []) _ _ (c .before .before .length .ensures) (c .before .is-accepted .ensures) (c .if1 .taken)
@@ -30,7 +30,7 @@ returns-2 c =
     ∙ sym (rest1 p)
 
 returns-3 : tie.Need-returns-3
-unfolding rowsIn numbered no4 no5
+unfolding rulesIn numbered no4 no5
 returns-3 c =
     let e = c .before in
     let p = e .before .before .before in

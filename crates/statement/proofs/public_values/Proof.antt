@@ -1,8 +1,8 @@
 use mathlib.Core.Path.{refl, sym, _∙_}
 use mathlib.Core.List.{[], _∷_}
-use Rattle.refusals.specs.Table.{numbered}
-use Rattle.refusals.proofs.TableLaws.{stops, goes-on, last-group}
-use Rattle.statement.specs.CaseTable.{no4, no5}
+use Rattle.refusals.specs.Rules.{numbered}
+use Rattle.refusals.proofs.RuleLaws.{stops, goes-on, last-group}
+use Rattle.statement.specs.CaseRefusals.{no4, no5}
 use borrow.Author.Needs.{needs}
 use Rattle.statement.proofs.public_values.Statement.{statement}
 use Rattle.statement.proofs.public_values.Tie as tie

@@ -1,7 +1,7 @@
 use mathlib.Core.Path.{_≡_, sym, ap, _∙_}
 use mathlib.Core.Bool.{true, false}
-use Rattle.statement.specs.CaseTable.{rangeOf, no9}
-use Rattle.refusals.specs.Table.{first}
+use Rattle.statement.specs.CaseRefusals.{rangeOf, no9}
+use Rattle.refusals.specs.Rules.{first}
 use Rattle.sprout.specs.Hashes.{hasTopBits}
 use Rattle.casefile.specs.Fields.{phiOf}
 use borrow.Author.Needs.{needs}

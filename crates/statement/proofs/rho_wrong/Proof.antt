@@ -1,4 +1,4 @@
-use Rattle.statement.specs.CaseTable.{rhoWrong}
+use Rattle.statement.specs.CaseRefusals.{rhoWrong}
 use borrow.Author.Needs.{needs}
 use Rattle.statement.proofs.rho_wrong.Statement.{statement}
 use Rattle.statement.proofs.rho_wrong.Tie as tie

@@ -4,7 +4,7 @@ use mathlib.Core.Bool.{true}
 use lib.Dec.{eqb}
 use Rattle.units.specs.Pairs.{numberOf}
 use Rattle.casefile.specs.Fields.{oldValueOf}
-use Rattle.statement.specs.CaseTable.{endsElsewhere, straysOf}
+use Rattle.statement.specs.CaseRefusals.{endsElsewhere, straysOf}
 use borrow.Author.Needs.{needs}
 use Rattle.statement.proofs.strays.Statement.{statement}
 use Rattle.statement.proofs.strays.Tie as tie

@@ -1,4 +1,4 @@
-use Rattle.statement.specs.CaseTable.{tagWrong}
+use Rattle.statement.specs.CaseRefusals.{tagWrong}
 use borrow.Author.Needs.{needs}
 use Rattle.statement.proofs.tag_wrong.Statement.{statement}
 use Rattle.statement.proofs.tag_wrong.Tie as tie

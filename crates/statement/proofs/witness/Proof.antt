@@ -1,8 +1,8 @@
 use mathlib.Core.Path.{_≡_, refl, sym, _∙_}
 use mathlib.Core.List.{_∷_}
-use Rattle.refusals.specs.Table.{first, rowsIn, numbered}
-use Rattle.refusals.proofs.TableLaws.{stops, goes-on}
-use Rattle.statement.specs.CaseTable.{no9, no10, claimRefusals, witnessTable}
+use Rattle.refusals.specs.Rules.{first, rulesIn, numbered}
+use Rattle.refusals.proofs.RuleLaws.{stops, goes-on}
+use Rattle.statement.specs.CaseRefusals.{no9, no10, claimRefusals, witnessRefusals}
 use borrow.Author.Needs.{needs}
 use Rattle.statement.proofs.witness.Statement.{statement}
 use Rattle.statement.proofs.witness.Tie as tie
@@ -13,13 +13,13 @@ S1 c = c .before .before .before .before
 abbrev S2 : tie.Else2 → tie.Start
 S2 c = S1 (c .before .before .before)
 
-rest1 : (c : tie.Else1) → let case = S1 c .args .case .now in first (rowsIn (witnessTable case)) ≡ first (rowsIn (no10 case ∷ claimRefusals case))
-unfolding witnessTable numbered no9
+rest1 : (c : tie.Else1) → let case = S1 c .args .case .now in first (rulesIn (witnessRefusals case)) ≡ first (rulesIn (no10 case ∷ claimRefusals case))
+unfolding witnessRefusals numbered no9
 rest1 c =
     let case = S1 c .args .case .now in
     goes-on (no9 case) (no10 case ∷ claimRefusals case) _ _ (c .before .before .ranges .ensures) (c .before .is-accepted .ensures) refl (c .if1 .left)
 
-rest2 : (c : tie.Else2) → let case = S2 c .args .case .now in first (rowsIn (witnessTable case)) ≡ first (rowsIn (claimRefusals case))
+rest2 : (c : tie.Else2) → let case = S2 c .args .case .now in first (rulesIn (witnessRefusals case)) ≡ first (rulesIn (claimRefusals case))
 unfolding numbered no10
 rest2 c =
     let case = S2 c .args .case .now in
@@ -27,7 +27,7 @@ rest2 c =
     ∙ goes-on (no10 case) (claimRefusals case) _ _ (c .before .before .paths .ensures) (c .before .is-accepted2 .ensures) refl (c .if2 .left)
 
 returns : tie.Need-returns
-unfolding witnessTable
+unfolding witnessRefusals
 returns c =
     let case = c .before .before .before .before .args .case .now in
     stops (no9 case) (no10 case ∷ claimRefusals case) _ _ (c .before .before .ranges .ensures) (c .before .is-accepted .ensures) (c .if1 .taken)

@@ -5,7 +5,7 @@ use lib.ListN.{length, take}
 use lib.Seq.{length-take-le}
 use Rattle.text.proofs.PenLaws.{start, rendered, rendered-as}
 use Rattle.tray.specs.declared.Next.{Next}
-use Rattle.tray.specs.Tray.{lengthOf, nameLength, linesFor}
+use Rattle.tray.specs.Tray.{lengthNext, nameLength, linesFor}
 use borrow.Author.Needs.{needs}
 use Rattle.tray.proofs.put_next.Statement.{statement}
 use Rattle.tray.proofs.put_next.Tie as tie
@@ -14,14 +14,14 @@ slice-aggregate-scan-lines : tie.Need-slice-aggregate-scan-lines
 slice-aggregate-scan-lines c =
     let n = c .before .before in
     let s = n .before .before .before in
-    let e : lengthOf (s .args .next) ≡ n .next .given .0 .0 = ap lengthOf (n .next .given .1) in
+    let e : lengthNext (s .args .next) ≡ n .next .given .0 .0 = ap lengthNext (n .next .given .1) in
     sym (length-take-le (n .next .given .0 .0) (s .args .buffer .now) (omega (arith, s .pre .inside)))
 
 slice-aggregate-put-name : tie.Need-slice-aggregate-put-name
 slice-aggregate-put-name c =
     let n = c .before .before in
     let s = n .before .before .before in
-    let e : lengthOf (s .args .next) ≡ n .next2 .given .0 .0 = ap lengthOf (n .next2 .given .1) in
+    let e : lengthNext (s .args .next) ≡ n .next2 .given .0 .0 = ap lengthNext (n .next2 .given .1) in
     sym (length-take-le (n .next2 .given .0 .0) (s .args .buffer .now) (omega (arith, s .pre .inside)))
 
 put-name-requires : tie.Need-put-name-requires
@@ -30,7 +30,7 @@ put-name-requires c κs =
     let s = n .before .before .before in
     let x = n .next2 .given .0 .0 in
     let e : nameLength (s .args .next) ≡ x = ap nameLength (n .next2 .given .1) in
-    let f : lengthOf (s .args .next) ≡ x = ap lengthOf (n .next2 .given .1) in
+    let f : lengthNext (s .args .next) ≡ x = ap lengthNext (n .next2 .given .1) in
     let l : length (take x (s .args .buffer .now)) ≤ 100 = omega (arith, s .pre .short, length-take-le x (s .args .buffer .now) (omega (arith, s .pre .inside))) in
     l
 

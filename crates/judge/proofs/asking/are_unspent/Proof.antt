@@ -1,11 +1,11 @@
 use mathlib.Core.Path.{_≡_, sym, _∙_}
 use mathlib.Core.Bool.{true, false}
 use Rattle.octets.specs.Rows.{rowsOf}
-use Rattle.refusals.specs.Table.{first}
+use Rattle.refusals.specs.Rules.{first}
 use Rattle.casefile.specs.Fields.{nullifierOf}
 use Rattle.ledger.specs.Rows.{among}
 use Rattle.ledger.specs.Ledgers.{spentRows, no8}
-use Rattle.ledgerbytes.specs.Keeping.{bare}
+use Rattle.ledgerbytes.specs.LedgerBytes.{bare}
 use borrow.Author.Needs.{needs}
 use Rattle.judge.proofs.asking.are_unspent.Statement.{statement}
 use Rattle.judge.proofs.asking.are_unspent.Tie as tie

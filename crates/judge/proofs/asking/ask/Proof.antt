@@ -6,15 +6,15 @@ use native.Mathlib.Omega.{arith}
 use borrow.Author.Tests.{not-true, not-false}
 use lib.ListN.{length}
 use Rattle.refusals.specs.declared.Answer.{Answer}
-use Rattle.refusals.specs.Table.{Row, accepted, first, rowsIn, numbered, isAccepted, lower, refusesUpTo}
-use Rattle.refusals.proofs.TableLaws.{stops, goes-on, one-fails, one-passed}
+use Rattle.refusals.specs.Rules.{Rule, accepted, first, rulesIn, numbered, isAccepted, lower, refusesUpTo}
+use Rattle.refusals.proofs.RuleLaws.{stops, goes-on, one-fails, one-passed}
 use Rattle.refusals.proofs.TwoTables.{allFrom, allUpTo, keeps, gives-up, has-still}
 use Rattle.casefile.specs.Fields.{anchorOf, nullifierOf}
-use Rattle.statement.specs.CaseTable.{no1, no4, no5, no7, publicTable}
-use Rattle.ledger.specs.Ledgers.{mostNullifiers, mostAnchors, damaged, no2, no3, no6, no8, ledgerTable}
+use Rattle.statement.specs.CaseRefusals.{no1, no4, no5, no7, publicRefusals}
+use Rattle.ledger.specs.Ledgers.{mostNullifiers, mostAnchors, damaged, no2, no3, no6, no8, ledgerRefusals}
 use Rattle.ledger.proofs.Soundness.{Sound, undamaged, within}
-use Rattle.ledgerbytes.specs.Keeping.{bare}
-use Rattle.judge.specs.Judging.{frontTable}
+use Rattle.ledgerbytes.specs.LedgerBytes.{bare}
+use Rattle.judge.specs.Judging.{frontRefusals}
 use Rattle.judge.proofs.Halves.{front-lower}
 use borrow.Author.Needs.{needs}
 use Rattle.judge.proofs.asking.ask.Statement.{statement}
@@ -34,80 +34,80 @@ abbrev S8 : tie.Else6 → tie.Start
 S8 c = S6 (c .before .before .before .before .before)
 
 -- the rows of each number for these parameters, and the groups that are left once some have been passed
-abbrev rows2 : tie.Start → List Row
+abbrev rows2 : tie.Start → List Rule
 rows2 s = no2 (s .args .table .now) (s .args .roll .now) (bare (s .args .counts))
 
-abbrev rows3 : tie.Start → List Row
+abbrev rows3 : tie.Start → List Rule
 rows3 s = no3 (s .args .table .now) (bare (s .args .counts))
 
-abbrev rows6 : tie.Start → List Row
+abbrev rows6 : tie.Start → List Rule
 rows6 s = no6 (s .args .roll .now) (bare (s .args .counts)) (anchorOf (s .args .case .now))
 
-abbrev rows8 : tie.Start → List Row
+abbrev rows8 : tie.Start → List Rule
 rows8 s = no8 (s .args .table .now) (bare (s .args .counts)) (nullifierOf 1 (s .args .case .now)) (nullifierOf 2 (s .args .case .now))
 
-abbrev from8 : tie.Start → List (List Row)
+abbrev from8 : tie.Start → List (List Rule)
 from8 s = rows8 s ∷ []
 
-abbrev from6 : tie.Start → List (List Row)
+abbrev from6 : tie.Start → List (List Rule)
 from6 s = rows6 s ∷ from8 s
 
-abbrev from3 : tie.Start → List (List Row)
+abbrev from3 : tie.Start → List (List Rule)
 from3 s = rows3 s ∷ from6 s
 
-abbrev whole : tie.Start → List Row
+abbrev whole : tie.Start → List Rule
 whole s =
-    ledgerTable (s .args .table .now) (s .args .roll .now) (bare (s .args .counts)) (anchorOf (s .args .case .now)) (nullifierOf 1 (s .args .case .now)) (nullifierOf 2 (s .args .case .now))
+    ledgerRefusals (s .args .table .now) (s .args .roll .now) (bare (s .args .counts)) (anchorOf (s .args .case .now)) (nullifierOf 1 (s .args .case .now)) (nullifierOf 2 (s .args .case .now))
 
-rest2 : (c : tie.Else1) → first (whole (S2 c)) ≡ first (rowsIn (from3 (S2 c)))
-unfolding ledgerTable numbered no2
+rest2 : (c : tie.Else1) → first (whole (S2 c)) ≡ first (rulesIn (from3 (S2 c)))
+unfolding ledgerRefusals numbered no2
 rest2 c =
     goes-on (rows2 (S2 c)) (from3 (S2 c)) _ _ (c .before .before .sound .ensures) (c .before .is-accepted .ensures) refl (c .if1 .left)
 
-rest4 : (c : tie.Else2) → first (whole (S4 c)) ≡ first (rowsIn (from6 (S4 c)))
+rest4 : (c : tie.Else2) → first (whole (S4 c)) ≡ first (rulesIn (from6 (S4 c)))
 unfolding numbered no3
 rest4 c =
     rest2 (c .before .before .before)
     ∙ goes-on (rows3 (S4 c)) (from6 (S4 c)) _ _ (c .before .before .has-room .ensures) (c .before .is-accepted2 .ensures) refl (c .if2 .left)
 
-rest6 : (c : tie.Else4) → first (whole (S6 c)) ≡ first (rowsIn (from8 (S6 c)))
+rest6 : (c : tie.Else4) → first (whole (S6 c)) ≡ first (rulesIn (from8 (S6 c)))
 unfolding numbered no6
 rest6 c =
     rest4 (c .before .before .before .before .before .before)
     ∙ goes-on (rows6 (S6 c)) (from8 (S6 c)) _ _ (c .before .before .is-anchored .ensures) (c .before .is-accepted3 .ensures) refl (c .if4 .left)
 
-rest8 : (c : tie.Else6) → first (whole (S8 c)) ≡ first (rowsIn [])
+rest8 : (c : tie.Else6) → first (whole (S8 c)) ≡ first (rulesIn [])
 unfolding numbered no8
 rest8 c =
     rest6 (c .before .before .before .before .before)
     ∙ goes-on (rows8 (S8 c)) [] _ _ (c .before .before .are-unspent .ensures) (c .before .is-accepted4 .ensures) refl (c .if6 .left)
 
 -- the whole front of the table: 2 and 3 decide before the case's own answer is asked for
-abbrev front : tie.Start → List (List Row)
-front s = frontTable (s .args .case .now) (s .args .table .now) (s .args .roll .now) (bare (s .args .counts))
+abbrev front : tie.Start → List (List Rule)
+front s = frontRefusals (s .args .case .now) (s .args .table .now) (s .args .roll .now) (bare (s .args .counts))
 
-abbrev from4 : tie.Start → List (List Row)
+abbrev from4 : tie.Start → List (List Rule)
 from4 s = no4 (s .args .case .now) ∷ no5 (s .args .case .now) ∷ rows6 s ∷ no7 (s .args .case .now) ∷ rows8 s ∷ []
 
-long : (s : tie.Start) → first (rowsIn (front s)) ≡ first (rowsIn (rows2 s ∷ rows3 s ∷ from4 s))
-unfolding frontTable numbered no1
+long : (s : tie.Start) → first (rulesIn (front s)) ≡ first (rulesIn (rows2 s ∷ rows3 s ∷ from4 s))
+unfolding frontRefusals numbered no1
 long s =
     goes-on (no1 (s .args .case .now)) (rows2 s ∷ rows3 s ∷ from4 s) accepted true (one-fails _ 1 0 (ap not (s .pre))) refl refl refl
 
 -- from there on its answer is the lower of the case's own and the ledger's
-lowered : (s : tie.Start) (own a : Answer) → own ≡ first (rowsIn (publicTable (s .args .case .now))) → a ≡ lower own (first (whole s)) → a ≡ first (rowsIn (front s))
+lowered : (s : tie.Start) (own a : Answer) → own ≡ first (rulesIn (publicRefusals (s .args .case .now))) → a ≡ lower own (first (whole s)) → a ≡ first (rulesIn (front s))
 lowered s own a e h =
     h ∙ ap (λ (x : Answer). lower x (first (whole s))) e ∙ sym (front-lower (s .args .case .now) (s .args .table .now) (s .args .roll .now) (bare (s .args .counts)))
 
 -- the case's own answer counts where it refuses with a number up to n and all that is left has n or more
-own-counts : (n : ℕ) (own : Answer) (up : Bool) (gs : List (List Row)) (all : Answer) → up ≡ refusesUpTo n own → up ≡ true → allFrom n (rowsIn gs) ≡ true
-    → all ≡ first (rowsIn gs) → own ≡ lower own all
+own-counts : (n : ℕ) (own : Answer) (up : Bool) (gs : List (List Rule)) (all : Answer) → up ≡ refusesUpTo n own → up ≡ true → allFrom n (rulesIn gs) ≡ true
+    → all ≡ first (rulesIn gs) → own ≡ lower own all
 own-counts n own up gs all e h k q =
-    keeps n own (rowsIn gs) (sym e ∙ h) k ∙ ap (lower own) (sym q)
+    keeps n own (rulesIn gs) (sym e ∙ h) k ∙ ap (lower own) (sym q)
 
 -- the group g's answer counts where it refuses with a number up to n and the case's own does not
-group-counts : (n : ℕ) (own a : Answer) (up passed : Bool) (g : List Row) (gs : List (List Row)) (all : Answer) → up ≡ refusesUpTo n own → up ≡ false → allUpTo n g ≡ true
-    → a ≡ first g → passed ≡ isAccepted a → not passed ≡ true → all ≡ first (rowsIn (g ∷ gs)) → a ≡ lower own all
+group-counts : (n : ℕ) (own a : Answer) (up passed : Bool) (g : List Rule) (gs : List (List Rule)) (all : Answer) → up ≡ refusesUpTo n own → up ≡ false → allUpTo n g ≡ true
+    → a ≡ first g → passed ≡ isAccepted a → not passed ≡ true → all ≡ first (rulesIn (g ∷ gs)) → a ≡ lower own all
 group-counts n own a up passed g gs all e h k q y r w =
     gives-up n own g a (sym e ∙ h) k q (sym y ∙ not-true passed r) ∙ ap (lower own) (stops g gs a passed q y r ∙ sym w)
 
@@ -133,7 +133,7 @@ returns-2 c =
     ∙ sym (long s ∙ goes-on (rows2 s) (rows3 s ∷ from4 s) _ _ (p .before .before .sound .ensures) (p .before .is-accepted .ensures) refl (p .if1 .left))
 
 returns-3 : tie.Need-returns-3
-unfolding rowsIn allFrom no6 no8
+unfolding rulesIn allFrom no6 no8
 returns-3 c =
     let o = c .before .before in
     let p = o .before in
@@ -156,7 +156,7 @@ returns-4 c =
     (group-counts 6 (o .public-part .result) _ _ _ (rows6 (S4 p)) (from8 (S4 p)) _ (q .before .refuses-up-to .ensures) (q .if3 .left) refl (c .before .before .is-anchored .ensures) (c .before .is-accepted3 .ensures) (c .if4 .taken) (rest4 p))
 
 returns-5 : tie.Need-returns-5
-unfolding rowsIn allFrom no8
+unfolding rulesIn allFrom no8
 returns-5 c =
     let p = c .before .before in
     let o = p .before .before .before .before .before in
@@ -180,7 +180,7 @@ returns-6 c =
     (group-counts 8 (o .public-part .result) _ _ _ (rows8 (S6 p)) [] _ (q .before .refuses-up-to2 .ensures) (q .if5 .left) refl (c .before .before .are-unspent .ensures) (c .before .is-accepted4 .ensures) (c .if6 .taken) (rest6 p))
 
 returns-7 : tie.Need-returns-7
-unfolding rowsIn first
+unfolding rulesIn first
 returns-7 c =
     let o = c .before .before .before .before .before .before .before .before .before .before in
     lowered (S8 c) _ _ (o .public-part .ensures) (has-still (o .public-part .result) (first (whole (S8 c))) (ap isAccepted (rest8 c)))

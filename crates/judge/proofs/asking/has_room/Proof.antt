@@ -4,7 +4,7 @@ use lib.ListN.{length}
 use native.Mathlib.Omega.{arith}
 use borrow.Author.Tests.{lt-ltb, le-ltb}
 use Rattle.ledger.specs.Ledgers.{mostNullifiers, roomIn, no3}
-use Rattle.refusals.proofs.TableLaws.{one-holds, one-fails}
+use Rattle.refusals.proofs.RuleLaws.{one-holds, one-fails}
 use borrow.Author.Needs.{needs}
 use Rattle.judge.proofs.asking.has_room.Statement.{statement}
 use Rattle.judge.proofs.asking.has_room.Tie as tie

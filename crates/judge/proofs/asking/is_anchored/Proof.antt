@@ -3,7 +3,7 @@ use mathlib.Core.Bool.{not}
 use mathlib.Core.List.{List}
 use Prim.Native.Nat.{ℕ}
 use Rattle.octets.specs.Rows.{rowsOf}
-use Rattle.refusals.proofs.TableLaws.{one-holds, one-fails}
+use Rattle.refusals.proofs.RuleLaws.{one-holds, one-fails}
 use Rattle.casefile.specs.Fields.{anchorOf}
 use Rattle.ledger.specs.Rows.{among}
 use Rattle.ledger.specs.Ledgers.{anchorRows, no6}

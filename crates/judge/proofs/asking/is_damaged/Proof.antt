@@ -9,7 +9,7 @@ use borrow.Author.Tests.{eq-eqb, ne-eqb, lt-ltb, le-ltb}
 use Rattle.units.specs.Limits.{maxMoney}
 use Rattle.ledger.specs.Ledgers.{mostNullifiers, mostAnchors, roomIn, spentRows, some, damage, damaged}
 use Rattle.ledger.proofs.Soundness.{some-at, within, at-most}
-use Rattle.ledgerbytes.specs.Keeping.{bare}
+use Rattle.ledgerbytes.specs.LedgerBytes.{bare}
 use borrow.Author.Needs.{needs}
 use Rattle.judge.proofs.asking.is_damaged.Statement.{statement}
 use Rattle.judge.proofs.asking.is_damaged.Tie as tie

@@ -1,6 +1,6 @@
 use mathlib.Core.Path.{sym, _∙_}
 use Rattle.ledger.specs.Ledgers.{no2}
-use Rattle.refusals.proofs.TableLaws.{one-holds, one-fails}
+use Rattle.refusals.proofs.RuleLaws.{one-holds, one-fails}
 use borrow.Author.Needs.{needs}
 use Rattle.judge.proofs.asking.sound.Statement.{statement}
 use Rattle.judge.proofs.asking.sound.Tie as tie

@@ -44,15 +44,18 @@ bare c = record { nullifiers = c .nullifiers; anchors = c .anchors; tree = recor
 unfoldable pub headOf : Ledger → List ℕ
 headOf l = littleBytes 8 (l .nullifiers) ++ littleBytes 8 (l .anchors) ++ littleBytes 8 (bitsOf (l .pool .0)) ++ littleBytes 4 (l .tree .leaves)
 
-unfoldable pub bytesOf : Ledger → List ℕ
-bytesOf l = headOf l ++ l .tree .nodes
+unfoldable pub ledgerBytes : Ledger → List ℕ
+ledgerBytes l = headOf l ++ l .tree .nodes
 
 -- only into a buffer of just that length
-abbrev pub isWhole : List ℕ → Bool
-isWhole b = eqb (length b) 988
+abbrev pub ledgerLength : ℕ
+ledgerLength = 988
 
-unfoldable pub written : Ledger → List ℕ → List ℕ
-written l b = cond (isWhole b) (bytesOf l) b
+abbrev pub isWhole : List ℕ → Bool
+isWhole b = eqb (length b) ledgerLength
+
+unfoldable pub bufferAfterWrite : Ledger → List ℕ → List ℕ
+bufferAfterWrite l b = cond (isWhole b) (ledgerBytes l) b
 
 -- a ledger of the machine's own numbers, with a record of 960 bytes
 pub record Fits (l : Ledger) : Type 0 where

@@ -5,7 +5,7 @@ use mathlib.Core.List.{List, [], _∷_}
 use lib.Ieee.{Float, binary64, add, mul, lt, le}
 use lib.Ieee.Scale.{finite}
 use Rattle.refusals.specs.declared.Answer.{Answer}
-use Rattle.refusals.specs.Table.{Row, row, answer, accepted}
+use Rattle.refusals.specs.Rules.{Rule, rule, answer, accepted}
 use Rattle.seal.specs.declared.Calibration.{Calibration}
 use Rattle.seal.specs.declared.Gate.{Gate}
 use Rattle.seal.specs.declared.Gate.the-variants.{None, AtLeast, Between}
@@ -52,5 +52,5 @@ sealAnswer NotFinite = answer 22 0
 sealAnswer Outside = answer 23 0
 
 -- the same as a table of refusals: 21, 22 and 23 at place 0
-unfoldable pub sealTable : Calibration → Gate → Float → List Row
-sealTable c g raw = row (badLimit g) 21 0 ∷ row (notFinite (pullOf raw c)) 22 0 ∷ row (outside g (pullOf raw c)) 23 0 ∷ []
+unfoldable pub sealRefusals : Calibration → Gate → Float → List Rule
+sealRefusals c g raw = rule (badLimit g) 21 0 ∷ rule (notFinite (pullOf raw c)) 22 0 ∷ rule (outside g (pullOf raw c)) 23 0 ∷ []

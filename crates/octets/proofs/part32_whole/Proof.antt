@@ -5,8 +5,8 @@ use lib.ListN.{getD}
 use Rattle.octets.specs.Parts.{listed, field}
 use Rattle.octets.proofs.Filling.{Filled, next, full}
 use borrow.Author.Needs.{needs}
-use Rattle.octets.proofs.ragged32.Statement.{statement}
-use Rattle.octets.proofs.ragged32.Tie as tie
+use Rattle.octets.proofs.part32_whole.Statement.{statement}
+use Rattle.octets.proofs.part32_whole.Tie as tie
 
 abbrev Inv-loop : tie.InvT-loop
 Inv-loop s at r₀ i₀ r i = (i ≤ 32) × Filled (λ k. getD s (at + k) 0) 32 i r
@@ -21,7 +21,7 @@ loop-holds c = (search needs, record { long = refl; made = refl })
 loop-again : tie.Need-loop-again Inv-loop μ-loop
 loop-again c =
     let p = c .before .before in
-    (search needs, next _ 32 (p .loop .i) (p .loop .r) _ (omega arith) (p .loop .inv .1) (c .byte-from .ensures))
+    (search needs, next _ 32 (p .loop .i) (p .loop .r) _ (omega arith) (p .loop .inv .1) refl)
 
 returns : tie.Need-returns Inv-loop μ-loop
 unfolding field
@@ -29,14 +29,15 @@ returns c =
     let p = c .before .loop in
     full _ 32 (p .i) (p .r) (omega arith) (p .inv .1)
 
-pub ragged32-spec : {M : Type 1} → statement M
-ragged32-spec =
+pub part32-whole-spec : {M : Type 1} → statement M
+part32-whole-spec =
     tie.close
     (tie.spec
     Inv-loop
     μ-loop
     loop-holds
-    (λ c κs. search needs)
+    (λ c. search needs)
+    (λ c. search needs)
     (λ c. search needs)
     (λ c. search needs)
     (λ c. search needs)

@@ -6,24 +6,20 @@ use mathlib.Core.Bool.{cond, _&&_}
 use mathlib.Core.List.{List, [], _∷_, _++_}
 use lib.ListN.{length, replicate}
 use Rattle.refusals.specs.declared.Answer.{Answer}
-use Rattle.refusals.specs.Table.{answer, accepted, isAccepted}
+use Rattle.refusals.specs.Rules.{answer, accepted, notGiven, isAccepted}
 use Rattle.seal.specs.declared.Calibration.{Calibration}
 use Rattle.seal.specs.declared.Read.{Read}
 use Rattle.seal.specs.declared.Read.the-variants.{Seal, Broken}
 use Rattle.seal.specs.Body.{readOf}
-use Rattle.seal.specs.Judgement.{judgeOf, sealAnswer}
+use Rattle.seal.specs.Pull.{judgeOf, sealAnswer}
 use Rattle.ledger.specs.declared.Ledger.{Ledger}
-use Rattle.judge.specs.Judging.{answerOf, ledgerAfter, tableAfter}
+use Rattle.judge.specs.Judging.{answerOf, ledgerAfterCase, tableAfterCase}
 use Rattle.bag.specs.declared.Scanned.{Scanned}
 use Rattle.bag.specs.Contents.{laidOut, bodyOf, casesOf}
 
 -- THE SEAL. What the bag says of it; any breach, of the layout or of the seal's own body, is Broken
 unfoldable pub sealIn : List ℕ → Read
 sealIn b = cond (laidOut b) (readOf (bodyOf 0 b)) Broken
-
--- what stands for an answer that was not given: a number that no refusal has, so that it can be taken neither for a refusal's nor for a pass
-abbrev pub notGiven : Answer
-notGiven = answer 255 0
 
 -- the layout's answer
 abbrev pub layoutAnswer : Read → Answer
@@ -40,40 +36,40 @@ unfoldable pub judgedCases : Calibration → List ℕ → List (List ℕ)
 judgedCases k b = cond (isAccepted (layoutAnswer (sealIn b)) && isAccepted (gateAnswer k (sealIn b))) (casesOf b) []
 
 -- the answers given so far, and the table and the ledger that they left
-pub record Held : Type 0 where
+pub record SoFar : Type 0 where
   pub answers : List Answer
   pub table : List ℕ
   pub ledger : Ledger
 
-abbrev pub held : List Answer → List ℕ → Ledger → Held
-held given t l = record { answers = given; table = t; ledger = l }
+abbrev pub soFar : List Answer → List ℕ → Ledger → SoFar
+soFar given t l = record { answers = given; table = t; ledger = l }
 
 -- one case more
-unfoldable pub withCase : List ℕ → Held → List ℕ → Held
-withCase r h c =
-    held (h .answers ++ (answerOf c (h .table) r (h .ledger) ∷ [])) (tableAfter c (h .table) r (h .ledger)) (ledgerAfter c (h .table) r (h .ledger))
+unfoldable pub withNext : List ℕ → SoFar → List ℕ → SoFar
+withNext r h c =
+    soFar (h .answers ++ (answerOf c (h .table) r (h .ledger) ∷ [])) (tableAfterCase c (h .table) r (h .ledger)) (ledgerAfterCase c (h .table) r (h .ledger))
 
 -- one case after the other, whatever the one before was answered
-unfoldable pub judgedAll : List ℕ → Held → List (List ℕ) → Held
+unfoldable pub judgedAll : List ℕ → SoFar → List (List ℕ) → SoFar
 judgedAll r h [] = h
-judgedAll r h (c ∷ cs) = judgedAll r (withCase r h c) cs
+judgedAll r h (c ∷ cs) = judgedAll r (withNext r h c) cs
 
-abbrev pub judgedFrom : List ℕ → List ℕ → Ledger → List (List ℕ) → Held
-judgedFrom t r l cs = judgedAll r (held [] t l) cs
+abbrev pub judgedFrom : List ℕ → List ℕ → Ledger → List (List ℕ) → SoFar
+judgedFrom t r l cs = judgedAll r (soFar [] t l) cs
 
-unfoldable pub heldAfter : Calibration → List ℕ → List ℕ → List ℕ → Ledger → Held
-heldAfter k b t r l = judgedFrom t r l (judgedCases k b)
+unfoldable pub allJudged : Calibration → List ℕ → List ℕ → List ℕ → Ledger → SoFar
+allJudged k b t r l = judgedFrom t r l (judgedCases k b)
 
 -- THE RESULT. There is room for seven answers: those that were given, and notGiven for the rest
-unfoldable pub padded : List Answer → List Answer
-padded given = given ++ replicate (7 - length given) notGiven
+unfoldable pub sevenAnswers : List Answer → List Answer
+sevenAnswers given = given ++ replicate (7 - length given) notGiven
 
 unfoldable pub report : Answer → Answer → List Answer → Ledger → Scanned
-report layout seal given l = record { layout = layout; seal = seal; cases = length given; answers = padded given; ledger = l }
+report layout seal given l = record { layout = layout; seal = seal; cases = length given; answers = sevenAnswers given; ledger = l }
 
 unfoldable pub scannedOf : Calibration → List ℕ → List ℕ → List ℕ → Ledger → Scanned
-scannedOf k b t r l = report (layoutAnswer (sealIn b)) (gateAnswer k (sealIn b)) (heldAfter k b t r l .answers) (heldAfter k b t r l .ledger)
+scannedOf k b t r l = report (layoutAnswer (sealIn b)) (gateAnswer k (sealIn b)) (allJudged k b t r l .answers) (allJudged k b t r l .ledger)
 
 -- and the table after it
-unfoldable pub tableAfterScan : Calibration → List ℕ → List ℕ → List ℕ → Ledger → List ℕ
-tableAfterScan k b t r l = heldAfter k b t r l .table
+unfoldable pub tableAfterBag : Calibration → List ℕ → List ℕ → List ℕ → Ledger → List ℕ
+tableAfterBag k b t r l = allJudged k b t r l .table

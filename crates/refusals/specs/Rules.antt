@@ -7,13 +7,13 @@ use mathlib.Core.List.{List, [], _∷_, _++_}
 use lib.Dec.{eqb, leb}
 use Rattle.refusals.specs.declared.Answer.{Answer}
 
-pub record Row : Type 0 where
+pub record Rule : Type 0 where
   pub applies : Bool
   pub number : ℕ
   pub place : ℕ
 
-abbrev pub row : Bool → ℕ → ℕ → Row
-row b n p = record { applies = b; number = n; place = p }
+abbrev pub rule : Bool → ℕ → ℕ → Rule
+rule b n p = record { applies = b; number = n; place = p }
 
 abbrev pub answer : ℕ → ℕ → Answer
 answer n p = record { number = n; place = p }
@@ -21,30 +21,34 @@ answer n p = record { number = n; place = p }
 abbrev pub accepted : Answer
 accepted = answer 0 0
 
+-- what stands for an answer that was not given: a number that no refusal has, so that it can be taken neither for a refusal's nor for a pass
+abbrev pub notGiven : Answer
+notGiven = answer 255 0
+
 abbrev pub isAccepted : Answer → Bool
 isAccepted a = eqb (a .number) 0
 
 -- the first row that applies, and acceptance where none does
-unfoldable pub first : List Row → Answer
+unfoldable pub first : List Rule → Answer
 first [] = accepted
 first (r ∷ rs) = cond (r .applies) (answer (r .number) (r .place)) (first rs)
 
 -- the rows of several refusals, one refusal after the other
-unfoldable pub rowsIn : List (List Row) → List Row
-rowsIn [] = []
-rowsIn (g ∷ gs) = g ++ rowsIn gs
+unfoldable pub rulesIn : List (List Rule) → List Rule
+rulesIn [] = []
+rulesIn (g ∷ gs) = g ++ rulesIn gs
 
 -- a refusal that can be given of the first or of the second of a pair: the first goes first
-abbrev pub forEach : (ℕ → Bool) → ℕ → List Row
-forEach test n = row (test 1) n 1 ∷ row (test 2) n 2 ∷ []
+abbrev pub forEach : (ℕ → Bool) → ℕ → List Rule
+forEach test n = rule (test 1) n 1 ∷ rule (test 2) n 2 ∷ []
 
 -- no row applies
-unfoldable pub None : List Row → Type 0
+unfoldable pub None : List Rule → Type 0
 None [] = Unit {0}
 None (r ∷ rs) = (r .applies ≡ false) × None rs
 
 -- no row has the number 0, which stands for acceptance
-unfoldable pub numbered : List Row → Bool
+unfoldable pub numbered : List Rule → Bool
 numbered [] = true
 numbered (r ∷ rs) = not (eqb (r .number) 0) && numbered rs
 

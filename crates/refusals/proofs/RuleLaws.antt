@@ -8,14 +8,14 @@ use borrow.Author.Tests.{eqb-true, eqb-false, not-true, not-false}
 use lib.Dec.{eqb}
 use Rattle.octets.proofs.BoolLaws.{and-both}
 use Rattle.refusals.specs.declared.Answer.{Answer}
-use Rattle.refusals.specs.Table.{Row, row, answer, accepted, isAccepted, first, rowsIn, forEach, None, numbered}
+use Rattle.refusals.specs.Rules.{Rule, rule, answer, accepted, isAccepted, first, rulesIn, forEach, None, numbered}
 
 -- a test is true or false
 pub by-test : {B : Type 0} (b : Bool) → (b ≡ true → B) → (b ≡ false → B) → B
 by-test true f g = f refl
 by-test false f g = g refl
 
-module _ (r : Row) (rs : List Row) where
+module _ (r : Rule) (rs : List Rule) where
   pub first-here : r .applies ≡ true → first (r ∷ rs) ≡ answer (r .number) (r .place)
   unfolding first
   first-here h = rw h
@@ -34,12 +34,12 @@ module _ (r : Row) (rs : List Row) where
   numbered-next h = and-both (not (eqb (r .number) 0)) (numbered rs) h .1
 
 -- no row applies: accepted; and the other way round, where each row has a number
-pub none-first : (rows : List Row) → None rows → first rows ≡ accepted
+pub none-first : (rows : List Rule) → None rows → first rows ≡ accepted
 unfolding None first
 none-first [] h = refl
 none-first (r ∷ rs) h = first-next r rs (h .0) ∙ none-first rs (h .1)
 
-pub first-none : (rows : List Row) → numbered rows ≡ true → first rows .number ≡ 0 → None rows
+pub first-none : (rows : List Rule) → numbered rows ≡ true → first rows .number ≡ 0 → None rows
 unfolding None
 first-none [] n h = tt
 first-none (r ∷ rs) n h =
@@ -48,13 +48,13 @@ first-none (r ∷ rs) n h =
     (λ e. (e, first-none rs (numbered-next r rs n) (ap (λ (a : Answer). a .number) (sym (first-next r rs e)) ∙ h)))
 
 -- rows of which none applies are passed over
-pub none-above : (a b : List Row) → None a → first (a ++ b) ≡ first b
+pub none-above : (a b : List Rule) → None a → first (a ++ b) ≡ first b
 unfolding None
 none-above [] b h = refl
 none-above (r ∷ a) b h = first-next r (a ++ b) (h .0) ∙ none-above a b (h .1)
 
 -- a table of two parts: the first part's refusal, or else the second part's answer
-pub first-refused : (a b : List Row) → isAccepted (first a) ≡ false → first (a ++ b) ≡ first a
+pub first-refused : (a b : List Rule) → isAccepted (first a) ≡ false → first (a ++ b) ≡ first a
 unfolding first
 first-refused [] b h = absurd (false≢true (sym h))
 first-refused (r ∷ a) b h =
@@ -62,48 +62,48 @@ first-refused (r ∷ a) b h =
     (λ e. first-here r (a ++ b) e ∙ sym (first-here r a e))
     (λ e. first-next r (a ++ b) e ∙ first-refused a b (ap isAccepted (sym (first-next r a e)) ∙ h) ∙ sym (first-next r a e))
 
-pub first-passed : (a b : List Row) → numbered a ≡ true → isAccepted (first a) ≡ true → first (a ++ b) ≡ first b
+pub first-passed : (a b : List Rule) → numbered a ≡ true → isAccepted (first a) ≡ true → first (a ++ b) ≡ first b
 first-passed a b n h = none-above a b (first-none a n (eqb-true (first a .number) 0 h))
 
 -- a function that asks one refusal after the other, with b for whether its answer a to the refusal g accepts: where it does not, it is the whole
 -- answer, and where it does the rest decides
-module _ (g : List Row) (gs : List (List Row)) (a : Answer) (b : Bool) (e : a ≡ first g) (q : b ≡ isAccepted a) where
-  pub stops : not b ≡ true → a ≡ first (rowsIn (g ∷ gs))
-  unfolding rowsIn
-  stops h = e ∙ sym (first-refused g (rowsIn gs) (ap isAccepted (sym e) ∙ sym q ∙ not-true b h))
+module _ (g : List Rule) (gs : List (List Rule)) (a : Answer) (b : Bool) (e : a ≡ first g) (q : b ≡ isAccepted a) where
+  pub stops : not b ≡ true → a ≡ first (rulesIn (g ∷ gs))
+  unfolding rulesIn
+  stops h = e ∙ sym (first-refused g (rulesIn gs) (ap isAccepted (sym e) ∙ sym q ∙ not-true b h))
 
-  pub goes-on : numbered g ≡ true → not b ≡ false → first (rowsIn (g ∷ gs)) ≡ first (rowsIn gs)
-  unfolding rowsIn
-  goes-on n h = first-passed g (rowsIn gs) n (ap isAccepted (sym e) ∙ sym q ∙ not-false b h)
+  pub goes-on : numbered g ≡ true → not b ≡ false → first (rulesIn (g ∷ gs)) ≡ first (rulesIn gs)
+  unfolding rulesIn
+  goes-on n h = first-passed g (rulesIn gs) n (ap isAccepted (sym e) ∙ sym q ∙ not-false b h)
 
-pub rows-append : (gs hs : List (List Row)) → rowsIn (gs ++ hs) ≡ rowsIn gs ++ rowsIn hs
-unfolding rowsIn
+pub rows-append : (gs hs : List (List Rule)) → rulesIn (gs ++ hs) ≡ rulesIn gs ++ rulesIn hs
+unfolding rulesIn
 rows-append [] hs = refl
-rows-append (g ∷ gs) hs = ap (λ (l : List Row). g ++ l) (rows-append gs hs) ∙ sym (append-assoc g (rowsIn gs) (rowsIn hs))
+rows-append (g ∷ gs) hs = ap (λ (l : List Rule). g ++ l) (rows-append gs hs) ∙ sym (append-assoc g (rulesIn gs) (rulesIn hs))
 
 -- the same for a function that asks a run of refusals at once
-module _ (gs hs : List (List Row)) (a : Answer) (b : Bool) (e : a ≡ first (rowsIn gs)) (q : b ≡ isAccepted a) where
-  pub run-stops : not b ≡ true → a ≡ first (rowsIn (gs ++ hs))
-  run-stops h = rw (rows-append gs hs) (e ∙ sym (first-refused (rowsIn gs) (rowsIn hs) (ap isAccepted (sym e) ∙ sym q ∙ not-true b h)))
+module _ (gs hs : List (List Rule)) (a : Answer) (b : Bool) (e : a ≡ first (rulesIn gs)) (q : b ≡ isAccepted a) where
+  pub run-stops : not b ≡ true → a ≡ first (rulesIn (gs ++ hs))
+  run-stops h = rw (rows-append gs hs) (e ∙ sym (first-refused (rulesIn gs) (rulesIn hs) (ap isAccepted (sym e) ∙ sym q ∙ not-true b h)))
 
-  pub run-goes-on : numbered (rowsIn gs) ≡ true → not b ≡ false → first (rowsIn (gs ++ hs)) ≡ first (rowsIn hs)
-  run-goes-on n h = rw (rows-append gs hs) (first-passed (rowsIn gs) (rowsIn hs) n (ap isAccepted (sym e) ∙ sym q ∙ not-false b h))
+  pub run-goes-on : numbered (rulesIn gs) ≡ true → not b ≡ false → first (rulesIn (gs ++ hs)) ≡ first (rulesIn hs)
+  run-goes-on n h = rw (rows-append gs hs) (first-passed (rulesIn gs) (rulesIn hs) n (ap isAccepted (sym e) ∙ sym q ∙ not-false b h))
 
-pub last-group : (g : List Row) → first g ≡ first (rowsIn (g ∷ []))
-unfolding rowsIn
+pub last-group : (g : List Rule) → first g ≡ first (rulesIn (g ∷ []))
+unfolding rulesIn
 last-group g = ap first (sym (append-nil g))
 
 -- a refusal with one row
 module _ (test : Bool) (n p : ℕ) where
-  pub one-holds : test ≡ true → answer n p ≡ first (row test n p ∷ [])
+  pub one-holds : test ≡ true → answer n p ≡ first (rule test n p ∷ [])
   unfolding first
   one-holds h = rw h
 
-  pub one-fails : test ≡ false → accepted ≡ first (row test n p ∷ [])
+  pub one-fails : test ≡ false → accepted ≡ first (rule test n p ∷ [])
   unfolding first
   one-fails h = rw h
 
-  pub one-passed : (n ≡ 0 → ⊥) → isAccepted (first (row test n p ∷ [])) ≡ true → test ≡ false
+  pub one-passed : (n ≡ 0 → ⊥) → isAccepted (first (rule test n p ∷ [])) ≡ true → test ≡ false
   one-passed z h = by-test test (λ e. absurd (z (eqb-true n 0 (ap isAccepted (one-holds e) ∙ h)))) (λ e. e)
 
 -- a refusal of a pair

@@ -18,7 +18,7 @@ use Rattle.books.specs.declared.Tallied.{Tallied}
 use Rattle.books.specs.DayList.{isOn, withDayRow}
 use Rattle.books.specs.Tally.{tallyOf}
 use Rattle.day.specs.declared.Entry.{Entry}
-use Rattle.day.specs.Lines.{rowWith, threeLine, dayRowLine, yesOrNo, enterLine, tallyLine, countLine, isPass, dayLines, lastEntry, entries, bothLines}
+use Rattle.day.specs.Lines.{threeLine, dayRowLine, yesOrNo, enterLine, tallyLine, countLine, isPass, dayLines, lastEntry, entries, bothLines}
 
 pub three-as : (word : List ℕ) (a b c : ℕ) → word ++ ((ascii " " ++ decimal a) ++ ((ascii " " ++ decimal b) ++ ((ascii " " ++ decimal c) ++ ascii "\n"))) ≡ threeLine word a b c
 unfolding threeLine

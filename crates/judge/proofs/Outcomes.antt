@@ -15,7 +15,8 @@ use Rattle.ledger.specs.declared.Answered.{Answered}
 use Rattle.ledger.specs.Rows.{tableWithTwo}
 use Rattle.ledger.specs.Ledgers.{enteredOf}
 use Rattle.ledgerbytes.specs.LedgerBytes.{bufferAfterWrite}
-use Rattle.judge.specs.Judging.{judgeRefusals, frontRefusals, answerOf, ledgerAfterCase, tableAfterCase, judgedOf, keptAfter}
+use Rattle.judge.specs.Judging.{judgeRefusals, frontRefusals, answerOf, ledgerAfterCase, tableAfterCase, judgedOf}
+use Rattle.judge.specs.Kept.{keptAfter}
 use Rattle.judge.proofs.Halves.{front-numbers, halves}
 
 module _ (c t r : List ℕ) (l : Ledger) where

@@ -12,7 +12,6 @@ use Rattle.ledger.specs.declared.Ledger.{Ledger}
 use Rattle.ledger.specs.declared.Answered.{Answered}
 use Rattle.ledger.specs.Rows.{tableWithTwo}
 use Rattle.ledger.specs.Ledgers.{no2, no3, no6, no8, enteredOf}
-use Rattle.ledgerbytes.specs.LedgerBytes.{bufferAfterWrite}
 
 -- THE TABLE OF REFUSALS, in the order of the numbers. i is 1 or 2, the place where one is told
 unfoldable pub judgeRefusals : List ℕ → List ℕ → List ℕ → Ledger → List Rule
@@ -53,7 +52,3 @@ tableAfterCase c t r l = cond (isAccepted (answerOf c t r l)) (tableWithTwo (l .
 
 unfoldable pub judgedOf : List ℕ → List ℕ → List ℕ → Ledger → Answered
 judgedOf c t r l = record { answer = answerOf c t r l; ledger = ledgerAfterCase c t r l }
-
--- a ledger that is kept as bytes s: where the answer a accepts, they are those of the ledger l that comes after
-unfoldable pub keptAfter : Answer → Ledger → List ℕ → List ℕ
-keptAfter a l s = cond (isAccepted a) (bufferAfterWrite l s) s

@@ -4,26 +4,26 @@
 ghost use mathlib.Core.Path.{_≡_};
 ghost use Prim.Native.Nat.{_<_};
 ghost use Rattle.units.specs.Pairs.{numberOf};
-ghost use Rattle.sprout.specs.Hashes.{macPrefix, rhoPrefix, withPrefix, hasTopBits, prefixed as taggedOf, addressFrom, nullifierFrom, macFrom, rhoFrom, noteBytes, commitmentFrom, boundBytes, hSigFrom};
+ghost use Rattle.sprout.specs.Hashes.{macPrefix, rhoPrefix, withPrefix, hasTopBits, prefixed as prefixedOf, addressFrom, nullifierFrom, macFrom, rhoFrom, noteBytes, commitmentFrom, boundBytes, hSigFrom};
 use units::Amount;
 use units::Which;
 
-// A key with a tag in the top four bits of its first byte.
-fn with_tag(tag: u8, key: &[u8; 32]) -> [u8; 32]
-    requires { ⌜ tag < 16 ⌝ }
-    ensures { λ r. ⌜ r ≡ withPrefix tag (now (key .entry)) ⌝ }
+// A key with a prefix in the top four bits of its first byte.
+fn with_prefix(prefix: u8, key: &[u8; 32]) -> [u8; 32]
+    requires { ⌜ prefix < 16 ⌝ }
+    ensures { λ r. ⌜ r ≡ withPrefix prefix (now (key .entry)) ⌝ }
 {
     let mut k = *key;
-    k[0] = tag * 16 + k[0] % 16;
+    k[0] = prefix * 16 + k[0] % 16;
     k
 }
 
-// The compression that all tagged hashes are.
-fn tagged(tag: u8, key: &[u8; 32], rest: &[u8; 32]) -> [u8; 32]
-    requires { ⌜ tag < 16 ⌝ }
-    ensures { λ r. ⌜ r ≡ taggedOf tag (now (key .entry)) (now (rest .entry)) ⌝ }
+// The compression that all prefixed hashes are.
+fn prefixed(prefix: u8, key: &[u8; 32], rest: &[u8; 32]) -> [u8; 32]
+    requires { ⌜ prefix < 16 ⌝ }
+    ensures { λ r. ⌜ r ≡ prefixedOf prefix (now (key .entry)) (now (rest .entry)) ⌝ }
 {
-    let k = with_tag(tag, key);
+    let k = with_prefix(prefix, key);
     sha256::compress_halves(&k, rest)
 }
 
@@ -38,17 +38,17 @@ pub fn address(key: &[u8; 32]) -> [u8; 32]
     ensures { λ r. ⌜ r ≡ addressFrom (now (key .entry)) ⌝ }
 {
     let rest = [0u8; 32];
-    tagged(12, key, &rest)
+    prefixed(12, key, &rest)
 }
 
 pub fn nullifier(key: &[u8; 32], rho: &[u8; 32]) -> [u8; 32]
     ensures { λ r. ⌜ r ≡ nullifierFrom (now (key .entry)) (now (rho .entry)) ⌝ }
 {
-    tagged(14, key, rho)
+    prefixed(14, key, rho)
 }
 
-// The tags of the first and the second of a pair.
-fn mac_tag(i: Which) -> u8
+// The prefixes of tag and rho, for the first and the second of a pair.
+fn mac_prefix(i: Which) -> u8
     ensures { λ r. ⌜ (r ≡ macPrefix (numberOf i)) × (r < 16) ⌝ }
 {
     match i {
@@ -57,7 +57,7 @@ fn mac_tag(i: Which) -> u8
     }
 }
 
-fn rho_tag(i: Which) -> u8
+fn rho_prefix(i: Which) -> u8
     ensures { λ r. ⌜ (r ≡ rhoPrefix (numberOf i)) × (r < 16) ⌝ }
 {
     match i {
@@ -70,14 +70,14 @@ fn rho_tag(i: Which) -> u8
 pub fn mac(i: Which, key: &[u8; 32], h_sig: &[u8; 32]) -> [u8; 32]
     ensures { λ r. ⌜ r ≡ macFrom (numberOf i) (now (key .entry)) (now («h_sig» .entry)) ⌝ }
 {
-    tagged(mac_tag(i), key, h_sig)
+    prefixed(mac_prefix(i), key, h_sig)
 }
 
 // The rho of new note i.
 pub fn rho(i: Which, phi: &[u8; 32], h_sig: &[u8; 32]) -> [u8; 32]
     ensures { λ r. ⌜ r ≡ rhoFrom (numberOf i) (now (phi .entry)) (now («h_sig» .entry)) ⌝ }
 {
-    tagged(rho_tag(i), phi, h_sig)
+    prefixed(rho_prefix(i), phi, h_sig)
 }
 
 // The 105 bytes that a commitment hashes.

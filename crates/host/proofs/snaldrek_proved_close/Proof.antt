@@ -3,7 +3,7 @@ use native.Mathlib.Omega.{arith}
 use lib.ListN.{length}
 use borrow.Author.Tests.{eq-eqb, ne-eqb}
 use Rattle.ledgerbytes.specs.LedgerBytes.{bufferAfterWrite}
-use Rattle.judge.specs.Judging.{keptAfter}
+use Rattle.judge.specs.Kept.{keptAfter}
 use Rattle.host.specs.Ledgers.{closeAnswer, ledgerAfterCloseCall, rollAfterCloseCall}
 use borrow.Author.Needs.{needs}
 use Rattle.host.proofs.snaldrek_proved_close.Statement.{statement}

@@ -5,7 +5,7 @@ use Rattle.sprout.proofs.address.Tie as tie
 
 returns : tie.Need-returns
 unfolding addressFrom
-returns c = c .tagged .ensures
+returns c = c .prefixed .ensures
 
 pub address-spec : {M : Type 1} → statement M
 address-spec = tie.close (tie.spec (λ c κs. search needs) returns)

@@ -91,7 +91,7 @@ module _ (tableLength rollLength : ℕ) where
     -- no more leaves than the table has rows, so the tree's theorem applies
     rooted : recordRoot (b .ledger .tree) ≡ treeRoot (p .leaves)
     rooted =
-        let few : b .ledger .nullifiers ≤ 2048 = at-most (b .ledger .nullifiers) mostNullifiers (length (b .table)) (k .sound .fits) in
+        let few : b .ledger .nullifiers ≤ mostNullifiers = at-most (b .ledger .nullifiers) mostNullifiers (length (b .table)) (k .sound .fits) in
         let e = k .count in
         ap recordRoot (k .tree) ∙ record-root (p .leaves) (omega arith) (k .long)
 

@@ -65,7 +65,7 @@ ready c t r l h =
     let p = passed c t r l h in
     let s = undamaged t r l (p .sound) in
     let room : l .nullifiers + 2 ≤ roomIn mostNullifiers (length t) = ltb-false (roomIn mostNullifiers (length t)) (l .nullifiers + 2) (p .roomy) in
-    let few : l .nullifiers + 2 ≤ 2048 = at-most (l .nullifiers + 2) mostNullifiers (length t) room in
+    let few : l .nullifiers + 2 ≤ mostNullifiers = at-most (l .nullifiers + 2) mostNullifiers (length t) room in
     let near : natAbs (l .pool .0) ≤ l .nullifiers / 2 * maxMoney = s .pool in
     let moved : vpubOldOf c + vpubNewOf c ≤ maxMoney = moves (vpubOldOf c) (vpubNewOf c) (p .one-sided) (p .old-money) (p .new-money) in
     record {

@@ -11,7 +11,7 @@ use Rattle.judge.proofs.closed.Statement.{statement}
 use Rattle.judge.proofs.closed.Tie as tie
 
 -- there is room for one anchor more
-roomy : (c : tie.Start) → c .args .ledger .anchors + 1 ≤ 1024
+roomy : (c : tie.Start) → c .args .ledger .anchors + 1 ≤ mostAnchors
 roomy c = at-most (c .args .ledger .anchors + 1) mostAnchors (length (c .args .roll .now)) (omega (arith, c .pre))
 
 start-of-requires : tie.Need-start-of-requires

@@ -56,7 +56,7 @@ mul-if6 : tie.Need-mul-if6
 mul-if6 c =
     let e = c .before .before .before .before .before in
     let a = e .before .before .before .before .before .args in
-    let h : a .counts .nullifiers ≤ 2048 = at-most (a .counts .nullifiers) mostNullifiers (length (a .table .now)) (fits e) in
+    let h : a .counts .nullifiers ≤ mostNullifiers = at-most (a .counts .nullifiers) mostNullifiers (length (a .table .now)) (fits e) in
     record { fits = omega arith }
 
 returns-6 : tie.Need-returns-6

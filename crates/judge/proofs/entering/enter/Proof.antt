@@ -21,7 +21,7 @@ enter-two-requires c κs =
 add-t18 : tie.Need-add-t18
 add-t18 c =
     let s = c .before .before .before .before .before .before .before .before .before in
-    let h : s .args .ledger .nullifiers + 2 ≤ 2048 = at-most (s .args .ledger .nullifiers + 2) mostNullifiers (length (s .args .table .now)) (s .pre .room) in
+    let h : s .args .ledger .nullifiers + 2 ≤ mostNullifiers = at-most (s .args .ledger .nullifiers + 2) mostNullifiers (length (s .args .table .now)) (s .pre .room) in
     record { fits = omega arith }
 
 returns : tie.Need-returns

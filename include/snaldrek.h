@@ -110,7 +110,7 @@ enum snaldrek_number {
     SNALDREK_WRONG_BUFFER = 51,         /* place: which lent buffer, as in enum snaldrek_buffer */
     SNALDREK_TALLY_FULL = 52,           /* a count that would be raised is at its most */
     SNALDREK_NO_SUCH_ROW = 53,          /* the day list ends before this row */
-    SNALDREK_NO_ANSWER = 54,            /* what is to be entered is more than a number and a place */
+    SNALDREK_NO_ANSWER = 54,            /* what is to be entered is no answer of a call */
 
     /* of no call: what a report has where a bag has no case, so that none is taken for a pass */
     SNALDREK_NOT_GIVEN = 255
@@ -183,7 +183,8 @@ uint32_t snaldrek_tally(uint8_t *tally, size_t tally_len, uint32_t answer);
 /* Writes row number `row` (from 0) of the day list: the seal's own number, and an answer as the calls
    above return it. The list has list_len / SNALDREK_DAY_ROW_BYTES rows, and the others stay. Fill a new
    list with bytes of 255: its rows then say SNALDREK_NOT_GIVEN, and none is taken for a pass.
-   53: there is no such row. 54: the answer is above 65,535, which no call returns. */
+   53: there is no such row. 54: no call returns such an answer: it is above
+   65,535, or has the number 0 and a place. */
 uint32_t snaldrek_day(uint8_t *list, size_t list_len, size_t row, uint32_t seal, uint32_t answer);
 
 /* ---- What the buffers say ---- */

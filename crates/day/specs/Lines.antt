@@ -53,7 +53,7 @@ dayLines (e ∷ es) rows t =
 
 -- the day's seven answers: in order, on a row that is used, past the end, and past every end
 abbrev pub entry : ℕ → ℕ → ℕ → ℕ → Entry
-entry at seal answer place = record { at = record { 0 = at }; rowWith = rowWith seal answer place }
+entry at seal answer place = record { at = record { 0 = at }; row = rowWith seal answer place }
 
 abbrev pub lastEntry : Entry
 lastEntry = entry 2 4294967295 255 255

@@ -2,6 +2,7 @@
 -- Assumes nothing.
 use Prim.Native.Nat.{ℕ, zero, suc, _+_, _*_, _/_, _%_, _^_, _≤_, _<_}
 use mathlib.Core.Path.{_≡_, refl, sym, ap, _∙_}
+use mathlib.Core.Bool.{true}
 use mathlib.Core.List.{List, _++_, append-assoc}
 use native.Mathlib.Decide.{decLe}
 use native.Mathlib.Nat.{lt-of-not-le}
@@ -14,7 +15,7 @@ use Rattle.octets.specs.Numbers.{littleBytes}
 use Rattle.octets.proofs.NumberLaws.{little-bytes}
 use Rattle.octets.proofs.PartLaws.{field-left, field-all, pasted-is, pasted-length}
 use Rattle.books.specs.DayList.{withDayRow}
-use Rattle.host.specs.Books.{dayRow, dayAnswer, dayAfter, dayRowOf, dayRows, dayList}
+use Rattle.host.specs.Books.{dayRow, dayAnswer, dayAfter, dayRowOf, dayRows, dayList, isAnswer}
 
 -- what is copied in past the first k bytes is copied into the rest
 pasted-past : (k at : ℕ) (t s : List ℕ) → k + at + length t ≤ length s → pasted (k + at) t s ≡ take k s ++ pasted at t (drop k s)
@@ -62,7 +63,7 @@ unfolding dayRow littleBytes
 row-long seal a = refl
 
 -- the law, of an answer that is one
-pub day-entered : (i seal a : ℕ) (b : List ℕ) → seal < 2 ^ 32 → a < 65536
+pub day-entered : (i seal a : ℕ) (b : List ℕ) → seal < 2 ^ 32 → isAnswer a ≡ true
     → dayList (dayAfter i seal a b) ≡ withDayRow i (record { seal = seal; answer = a % 256; place = a / 256 % 256 }) (dayList b)
 unfolding dayAnswer dayAfter withDayRow
 day-entered i seal a b h k = go (decLe (length b / 6) i)
@@ -72,4 +73,4 @@ day-entered i seal a b h k = go (decLe (length b / 6) i)
         rw (le-ltb i (length b / 6) l, rows-length (length b / 6) b, le-ltb i (length b / 6) l)
     go (no l) =
         let m : i < length b / 6 = lt-of-not-le l in
-        rw (lt-ltb i (length b / 6) m, lt-ltb a 65536 k, rows-length (length b / 6) b, lt-ltb i (length b / 6) m, pasted-length (6 * i) (dayRow seal a) b, rows-set (length b / 6) i (dayRow seal a) b m (omega arith) (row-long seal a), row-read seal a h)
+        rw (lt-ltb i (length b / 6) m, k, rows-length (length b / 6) b, lt-ltb i (length b / 6) m, pasted-length (6 * i) (dayRow seal a) b, rows-set (length b / 6) i (dayRow seal a) b m (omega arith) (row-long seal a), row-read seal a h)

@@ -1,7 +1,7 @@
 -- The shift's books as bytes: a tally of 12, and a day list in rows of 6. a is an answer as one number.
 -- Assumes nothing.
-use Prim.Native.Nat.{ℕ, zero, suc, _*_, _/_}
-use mathlib.Core.Bool.{Bool, cond}
+use Prim.Native.Nat.{ℕ, zero, suc, _*_, _/_, _%_}
+use mathlib.Core.Bool.{Bool, cond, not, _&&_, _||_}
 use mathlib.Core.List.{List, [], _∷_, _++_}
 use lib.Dec.{eqb, ltb}
 use lib.ListN.{length, getD, drop}
@@ -39,9 +39,9 @@ dayRow seal a = littleBytes 4 seal ++ littleBytes 2 a
 abbrev pub isOnList : ℕ → List ℕ → Bool
 isOnList i b = ltb i (length b / 6)
 
--- a number and a place, and nothing above them
-abbrev pub isAnswer : ℕ → Bool
-isAnswer a = ltb a 65536
+-- a number and a place, and nothing above them; the number 0 is a pass, and a pass has no place
+unfoldable pub isAnswer : ℕ → Bool
+isAnswer a = ltb a 65536 && (not (eqb (a % 256) 0) || eqb a 0)
 
 unfoldable pub dayAnswer : ℕ → ℕ → List ℕ → Answer
 dayAnswer i a b = cond (isOnList i b) (cond (isAnswer a) accepted noAnswer) noSuchRow

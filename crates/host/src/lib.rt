@@ -8,7 +8,7 @@ ghost use Rattle.seal.specs.Pull.{sealAnswer};
 ghost use Rattle.host.specs.Answers.{codeOf};
 ghost use Rattle.host.specs.Ledgers.{openAnswer, ledgerAfterOpenCall, rollAfterOpenCall, judgeAnswer, ledgerAfterJudgeCall, tableAfterJudgeCall, closeAnswer, ledgerAfterCloseCall, rollAfterCloseCall, rootAnswer, rootAfter, hashAnswer, hashAfter};
 ghost use Rattle.host.specs.Bags.{handed, bodyAnswer, pullAfter, ownAnswer, bagAnswer, ledgerAfterBagCall, tableAfterBagCall, answersOf, reportOf, reportAfterBagCall};
-ghost use Rattle.host.specs.Books.{tallyIn, tallyBytes, tallyAnswer, tallyAfter, dayRow, dayAnswer, dayAfter};
+ghost use Rattle.host.specs.Books.{isAnswer, tallyIn, tallyBytes, tallyAnswer, tallyAfter, dayRow, dayAnswer, dayAfter};
 use bag::Scanned;
 use books::Tally;
 use ledgerbytes::LEDGER_LENGTH;
@@ -275,6 +275,19 @@ fn day_row(seal: u32, answer: u32) -> [u8; 6]
     bytes
 }
 
+// Whether a call can have returned it: a number and a place, and with the number 0 the place 0.
+fn is_answer(answer: u32) -> bool
+    ensures { λ r. ⌜ r ≡ isAnswer answer ⌝ }
+{
+    if 65535 < answer {
+        return false;
+    }
+    if answer % 256 != 0 {
+        return true;
+    }
+    answer == 0
+}
+
 // Rewrites one row of the day list. A row has room for a number and a place, so more is no answer.
 #[no_mangle]
 pub extern "C" fn snaldrek_proved_day(list: &mut [u8], row: usize, seal: u32, answer: u32) -> u32
@@ -284,7 +297,7 @@ pub extern "C" fn snaldrek_proved_day(list: &mut [u8], row: usize, seal: u32, an
     if list.len() / 6 <= row {
         return code(Answer::refused(53, 0));
     }
-    if 65535 < answer {
+    if !is_answer(answer) {
         return code(Answer::refused(54, 0));
     }
     let bytes = day_row(seal, answer);

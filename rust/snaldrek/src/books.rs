@@ -65,8 +65,6 @@ mod day_list {
 
     const DAY_ROW_BYTES: usize = 6;
     const NOT_GIVEN: u8 = 255;
-    /// What the library takes for no answer.
-    const NO_ANSWER: u32 = u32::MAX;
 
     /// A row of the day list.
     #[derive(Clone, Copy, Debug, PartialEq, Eq)]
@@ -111,11 +109,12 @@ mod day_list {
         /// where an answer without a name does not fit into one, or would be
         /// read as a pass there.
         pub fn enter(&mut self, row: usize, seal: u32, answer: Answer) -> Answer {
-            let code = match answer {
-                Err(refusal) if refusal.number() == 0 => NO_ANSWER,
-                _ => Refusal::code_of(answer),
-            };
-            Refusal::answer(calls::day(&mut self.bytes, row, seal, code))
+            Refusal::answer(calls::day(
+                &mut self.bytes,
+                row,
+                seal,
+                Refusal::code_of(answer),
+            ))
         }
 
         /// A row, if there is one.

@@ -3,7 +3,7 @@
 use Prim.Native.Nat.{ℕ, _+_, _-_, _≤_, _<_, _^_}
 use mathlib.Core.Path.{_≡_, sym, ap, _∙_}
 use mathlib.Core.Bool.{true}
-use mathlib.Core.List.{List, _++_}
+use mathlib.Core.List.{List, [], _++_, append-nil}
 use native.Mathlib.Decide.{decLe}
 use native.Mathlib.Nat.{lt-of-not-le}
 use native.Mathlib.Omega.{arith}
@@ -16,6 +16,8 @@ use Rattle.octets.specs.Numbers.{little, littleBytes}
 use Rattle.octets.proofs.ByteLaws.{field-below, field-again}
 use Rattle.octets.proofs.NumberLaws.{little-bytes, little-bytes-length}
 use Rattle.octets.proofs.PartLaws.{field-length, field-left, field-right, field-all, field-join}
+use Rattle.tree.specs.RecordBytes.{recordAt, recordBytes}
+use Rattle.tree.proofs.RecordLaws.{record-long, record-between, record-again}
 use Rattle.ledger.specs.declared.Ledger.{Ledger}
 use Rattle.ledgerbytes.specs.LedgerBytes.{signedOf, bitsOf, ledgerOf, headOf, ledgerBytes, isWhole, Fits}
 
@@ -36,48 +38,46 @@ bits-small (negsuc n) h = omega arith
 last : (at n : ℕ) (p s : List ℕ) → length p ≡ at → length s ≡ n → field at n (p ++ s) ≡ s
 last at n p s hp hs = field-right at 0 n p s (omega arith) ∙ ap (λ (k : ℕ). field 0 k s) (sym hs) ∙ field-all s
 
--- the four numbers of the head, one behind the other
-module _ (a b c d e : List ℕ) (ha : length a ≡ 8) (hb : length b ≡ 8) (hc : length c ≡ 8) (hd : length d ≡ 4) (he : length e ≡ 960) where
+-- the three numbers of the head, one behind the other, and whatever follows
+module _ (a b c e : List ℕ) (ha : length a ≡ 8) (hb : length b ≡ 8) (hc : length c ≡ 8) where
   two : length (a ++ b) ≡ 16
   two = omega (arith, length-append a b)
 
   three : length (a ++ b ++ c) ≡ 24
   three = omega (arith, length-append (a ++ b) c, two)
 
-  four : length (a ++ b ++ c ++ d) ≡ 28
-  four = omega (arith, length-append (a ++ b ++ c) d, three)
+  -- what lies within the first three, or the first two, is not touched by what follows
+  in-three : (at : ℕ) → at + 8 ≤ 24 → field at 8 (a ++ b ++ c ++ e) ≡ field at 8 (a ++ b ++ c)
+  in-three at h = field-left at 8 (a ++ b ++ c) e (omega (arith, three))
 
-  -- whatever lies within the first three, or the first two, is not touched by what follows
-  in-three : (at : ℕ) → at + 8 ≤ 24 → field at 8 (a ++ b ++ c ++ d ++ e) ≡ field at 8 (a ++ b ++ c)
-  in-three at h = field-left at 8 (a ++ b ++ c ++ d) e (omega (arith, four)) ∙ field-left at 8 (a ++ b ++ c) d (omega (arith, three))
-
-  in-two : (at : ℕ) → at + 8 ≤ 16 → field at 8 (a ++ b ++ c ++ d ++ e) ≡ field at 8 (a ++ b)
+  in-two : (at : ℕ) → at + 8 ≤ 16 → field at 8 (a ++ b ++ c ++ e) ≡ field at 8 (a ++ b)
   in-two at h = in-three at (omega arith) ∙ field-left at 8 (a ++ b) c (omega (arith, two))
 
-  part-1 : field 0 8 (a ++ b ++ c ++ d ++ e) ≡ a
+  part-1 : field 0 8 (a ++ b ++ c ++ e) ≡ a
   part-1 = in-two 0 (omega arith) ∙ field-left 0 8 a b (omega arith) ∙ ap (λ (k : ℕ). field 0 k a) (sym ha) ∙ field-all a
 
-  part-2 : field 8 8 (a ++ b ++ c ++ d ++ e) ≡ b
+  part-2 : field 8 8 (a ++ b ++ c ++ e) ≡ b
   part-2 = in-two 8 (omega arith) ∙ last 8 8 a b ha hb
 
-  part-3 : field 16 8 (a ++ b ++ c ++ d ++ e) ≡ c
+  part-3 : field 16 8 (a ++ b ++ c ++ e) ≡ c
   part-3 = in-three 16 (omega arith) ∙ last 16 8 (a ++ b) c two hc
 
-  part-4 : field 24 4 (a ++ b ++ c ++ d ++ e) ≡ d
-  part-4 = field-left 24 4 (a ++ b ++ c ++ d) e (omega (arith, four)) ∙ last 24 4 (a ++ b ++ c) d three hd
-
-  part-5 : field 28 960 (a ++ b ++ c ++ d ++ e) ≡ e
-  part-5 = last 28 960 (a ++ b ++ c ++ d) e four he
+head-long : (l : Ledger) → length (headOf l) ≡ 24
+unfolding headOf
+head-long l =
+    three (littleBytes 8 (l .nullifiers)) (littleBytes 8 (l .anchors)) (littleBytes 8 (bitsOf (l .pool .0))) []
+    (little-bytes-length 8 (l .nullifiers)) (little-bytes-length 8 (l .anchors)) (little-bytes-length 8 (bitsOf (l .pool .0)))
 
 -- a ledger that fits takes 988 bytes
 pub bytes-long : (l : Ledger) → Fits l → length (ledgerBytes l) ≡ 988
-unfolding ledgerBytes headOf
-bytes-long l h =
-    let n = littleBytes 8 (l .nullifiers) in
-    let a = littleBytes 8 (l .anchors) in
-    let p = littleBytes 8 (bitsOf (l .pool .0)) in
-    let v = littleBytes 4 (l .tree .leaves) in
-    omega (arith, length-append (n ++ a ++ p ++ v) (l .tree .nodes), four n a p v (l .tree .nodes) (little-bytes-length 8 (l .nullifiers)) (little-bytes-length 8 (l .anchors)) (little-bytes-length 8 (bitsOf (l .pool .0))) (little-bytes-length 4 (l .tree .leaves)) (h .nodes), h .nodes)
+unfolding ledgerBytes
+bytes-long l h = omega (arith, length-append (headOf l) (recordBytes (l .tree)), head-long l, record-long (l .tree) (h .nodes))
+
+-- the record behind the head
+record-part : (l : Ledger) → Fits l → recordAt 24 (headOf l ++ recordBytes (l .tree)) ≡ l .tree
+record-part l h =
+    ap (λ (r : List ℕ). recordAt 24 (headOf l ++ r)) (sym (append-nil (recordBytes (l .tree))))
+    ∙ record-between 24 (l .tree) (h .leaves) (h .nodes) (headOf l) [] (head-long l)
 
 -- the law
 pub read-written : (l : Ledger) → Fits l → ledgerOf (ledgerBytes l) ≡ l
@@ -87,14 +87,11 @@ read-written l h =
     let a = littleBytes 8 (l .anchors) in
     let z = l .pool .0 in
     let p = littleBytes 8 (bitsOf z) in
-    let v = littleBytes 4 (l .tree .leaves) in
-    let s = l .tree .nodes in
+    let r = recordBytes (l .tree) in
     let hn = little-bytes-length 8 (l .nullifiers) in
     let ha = little-bytes-length 8 (l .anchors) in
     let hp = little-bytes-length 8 (bitsOf z) in
-    let hv = little-bytes-length 4 (l .tree .leaves) in
-    let hs = h .nodes in
-    rw (part-1 n a p v s hn ha hp hv hs, part-2 n a p v s hn ha hp hv hs, part-3 n a p v s hn ha hp hv hs, part-4 n a p v s hn ha hp hv hs, part-5 n a p v s hn ha hp hv hs, little-bytes 8 (l .nullifiers) (h .nullifiers), little-bytes 8 (l .anchors) (h .anchors), little-bytes 8 (bitsOf z) (bits-small z (h .pool)), little-bytes 4 (l .tree .leaves) (h .leaves), signed-bits z (h .pool))
+    rw (part-1 n a p r hn ha hp, part-2 n a p r hn ha hp, part-3 n a p r hn ha hp, record-part l h, little-bytes 8 (l .nullifiers) (h .nullifiers), little-bytes 8 (l .anchors) (h .anchors), little-bytes 8 (bitsOf z) (bits-small z (h .pool)), signed-bits z (h .pool))
 
 -- THE OTHER WAY ROUND. A number of 64 bits is read as a signed one, and its bits are that number again
 module _ (x : ℕ) (h : x < 2 ^ 64) where
@@ -131,5 +128,5 @@ module _ (s : List ℕ) (h : Bytes s) where
   pub written-read : isWhole s ≡ true → ledgerBytes (ledgerOf s) ≡ s
   unfolding ledgerOf ledgerBytes headOf
   written-read w =
-      rw (field-again 0 8 s h, field-again 8 8 s h, bits-signed (little (field 16 8 s)) (field-below 16 8 s h), field-again 16 8 s h, field-again 24 4 s h, field-join 0 8 8 s, field-join 0 16 8 s, field-join 0 24 4 s, field-join 0 28 960 s)
+      rw (field-again 0 8 s h, field-again 8 8 s h, bits-signed (little (field 16 8 s)) (field-below 16 8 s h), field-again 16 8 s h, record-again 24 s h, field-join 0 8 8 s, field-join 0 16 8 s, field-join 0 24 964 s)
       (ap (λ (n : ℕ). field 0 n s) (sym (eqb-true (length s) 988 w)) ∙ field-all s)

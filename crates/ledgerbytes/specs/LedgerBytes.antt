@@ -1,5 +1,4 @@
--- A ledger's 988 bytes: nullifier count, anchor count, pool, leaf count, the record's nodes. b is the bytes, l what a ledger keeps beside its table and
--- its roll.
+-- A ledger's 988 bytes: nullifier count, anchor count, pool, and the tree's record. b is the bytes, l what a ledger keeps beside its table and its roll.
 -- Assumes nothing.
 use Prim.Native.Nat.{ℕ, _-_, _^_, _<_}
 use mathlib.Core.Path.{_≡_}
@@ -11,6 +10,7 @@ use lib.ListN.{length}
 use lib.Signed.{mag}
 use Rattle.octets.specs.Parts.{field}
 use Rattle.octets.specs.Numbers.{little, littleBytes}
+use Rattle.tree.specs.RecordBytes.{recordAt, recordBytes}
 use Rattle.ledger.specs.declared.Ledger.{Ledger}
 use Rattle.ledgerbytes.specs.declared.Counts.{Counts}
 
@@ -29,7 +29,7 @@ ledgerOf b =
     record {
       nullifiers = little (field 0 8 b);
       anchors = little (field 8 8 b);
-      tree = record { leaves = little (field 24 4 b); nodes = field 28 960 b };
+      tree = recordAt 24 b;
       pool = record { 0 = signedOf (little (field 16 8 b)) };
     }
 
@@ -40,12 +40,12 @@ countsOf l = record { nullifiers = l .nullifiers; anchors = l .anchors; leaves =
 abbrev pub bare : Counts → Ledger
 bare c = record { nullifiers = c .nullifiers; anchors = c .anchors; tree = record { leaves = c .leaves; nodes = [] }; pool = c .pool }
 
--- WRITING: what stands before the nodes, and the whole
+-- WRITING: what stands before the record, and the whole
 unfoldable pub headOf : Ledger → List ℕ
-headOf l = littleBytes 8 (l .nullifiers) ++ littleBytes 8 (l .anchors) ++ littleBytes 8 (bitsOf (l .pool .0)) ++ littleBytes 4 (l .tree .leaves)
+headOf l = littleBytes 8 (l .nullifiers) ++ littleBytes 8 (l .anchors) ++ littleBytes 8 (bitsOf (l .pool .0))
 
 unfoldable pub ledgerBytes : Ledger → List ℕ
-ledgerBytes l = headOf l ++ l .tree .nodes
+ledgerBytes l = headOf l ++ recordBytes (l .tree)
 
 -- only into a buffer of just that length
 abbrev pub ledgerLength : ℕ

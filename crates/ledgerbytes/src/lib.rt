@@ -8,7 +8,6 @@ ghost use Rattle.octets.specs.Numbers.{little};
 ghost use Rattle.ledgerbytes.specs.LedgerBytes.{signedOf, bitsOf, ledgerOf, countsOf, headOf, isWhole, bufferAfterWrite};
 use ledger::Ledger;
 use ledger::Pool;
-use tree::Tree;
 
 // How many bytes a ledger has.
 pub const LEDGER_LENGTH: usize = 988;
@@ -44,20 +43,7 @@ fn bits(pool: Pool) -> u64
     }
 }
 
-// The record's nodes: in one copy where the buffer has them all.
-fn nodes_in(bytes: &[u8]) -> [u8; 960]
-    ensures { λ r. ⌜ r ≡ field 28 960 (now (bytes .entry)) ⌝ }
-{
-    let mut nodes = [0u8; 960];
-    if bytes.len() < LEDGER_LENGTH {
-        octets::fill(&mut nodes, bytes, 28);
-    } else {
-        octets::copy_in(&mut nodes, 0, &bytes[28..LEDGER_LENGTH]);
-    }
-    nodes
-}
-
-// The number of eight bytes at an index before the nodes: in one load where the buffer has them.
+// The number of eight bytes at an index before the record's nodes: in one load where the buffer has them.
 fn number(bytes: &[u8], at: usize) -> u64
     requires { ⌜ at + 8 ≤ 28 ⌝ }
     ensures { λ r. ⌜ r ≡ little (field at 8 (now (bytes .entry))) ⌝ }
@@ -103,13 +89,9 @@ pub fn read_counts(bytes: &[u8]) -> Counts
 pub fn read(bytes: &[u8]) -> Ledger
     ensures { λ r. ⌜ r ≡ ledgerOf (now (bytes .entry)) ⌝ }
 {
-    let nodes = nodes_in(bytes);
+    let tree = tree::read_record(bytes, 24);
     let counts = read_counts(bytes);
     let pool = counts.pool;
-    let tree = Tree {
-        leaves: counts.leaves,
-        nodes,
-    };
     Ledger {
         nullifiers: counts.nullifiers,
         anchors: counts.anchors,
@@ -118,20 +100,17 @@ pub fn read(bytes: &[u8]) -> Ledger
     }
 }
 
-// What stands before the nodes: the counts, the pool, and the record's own count.
-fn head(ledger: Ledger) -> [u8; 28]
+// What stands before the record: the counts and the pool.
+fn head(ledger: Ledger) -> [u8; 24]
     ensures { λ r. ⌜ r ≡ headOf ledger ⌝ }
 {
-    let tree = ledger.tree;
     let nullifiers = octets::le_bytes64(ledger.nullifiers as u64);
     let anchors = octets::le_bytes64(ledger.anchors as u64);
     let money = octets::le_bytes64(bits(ledger.pool));
-    let leaves = octets::le_bytes32(tree.leaves);
-    let mut r = [0u8; 28];
+    let mut r = [0u8; 24];
     octets::copy_in(&mut r, 0, &nullifiers);
     octets::copy_in(&mut r, 8, &anchors);
     octets::copy_in(&mut r, 16, &money);
-    octets::copy_in(&mut r, 24, &leaves);
     r
 }
 
@@ -145,8 +124,7 @@ pub fn write(bytes: &mut [u8], ledger: Ledger) -> bool
     }
     let front = head(ledger);
     let tree = ledger.tree;
-    let nodes = tree.nodes;
     octets::copy_in(bytes, 0, &front);
-    octets::copy_in(bytes, 28, &nodes);
+    tree::write_record(bytes, 24, tree);
     true
 }

@@ -1,13 +1,15 @@
 // The commitment tree as a ledger and a case need it: the short record, to which a leaf is added, its
-// root, and a path climbed from a leaf. That the record's root is the tree's, and that a leaf's own path
-// leads there, are theorems of proofs/Grown.antt. Which leaves there are is left to `ledger`.
+// root, its bytes, and a path climbed from a leaf. That the record's root is the tree's, and that a leaf's
+// own path leads there, are theorems of proofs/Grown.antt. Which leaves there are is left to `ledger`.
 ghost use mathlib.Core.Path.{_≡_};
-ghost use Prim.Native.Nat.{_<_, _*_};
-ghost use Rattle.octets.specs.Parts.{field};
+ghost use Prim.Native.Nat.{_+_, _≤_, _<_, _*_};
+ghost use lib.ListN.{length};
+ghost use Rattle.octets.specs.Parts.{field, fitsIn, pasted};
 ghost use Rattle.octets.specs.Rows.{rowsOf, flat};
 ghost use Rattle.nodes.specs.Trees.{push, joinOf};
 ghost use Rattle.nodes.specs.CommitmentTree.{parentOf, emptyRoot};
 ghost use Rattle.tree.specs.Record.{freshOf, withLeafOf, recordRoot, stepOf, pathEnd};
+ghost use Rattle.tree.specs.RecordBytes.{recordAt, recordBytes};
 use units::Position;
 use units::TREE_LEAVES;
 
@@ -112,4 +114,58 @@ pub fn climb(leaf: [u8; 32], position: Position, path: &[u8]) -> [u8; 32]
         p = p.parent();
     }
     x
+}
+
+// How many bytes a record has: its count, then its nodes.
+pub const RECORD_LENGTH: usize = 964;
+
+// A record that the bytes have whole; its nodes in one copy.
+fn record_whole(bytes: &[u8], at: usize) -> Tree
+    requires { ⌜ at + 964 ≤ length (now bytes) ⌝ }
+    ensures { λ r. ⌜ r ≡ recordAt at (now (bytes .entry)) ⌝ }
+{
+    let leaves = octets::le32_of(bytes[at], bytes[at + 1], bytes[at + 2], bytes[at + 3]);
+    let mut nodes = [0u8; 960];
+    octets::copy_in(&mut nodes, 0, &bytes[at + 4..at + RECORD_LENGTH]);
+    Tree { leaves, nodes }
+}
+
+// A record of which the bytes may lack some: zeros stand for them.
+fn record_padded(bytes: &[u8], at: usize) -> Tree
+    ensures { λ r. ⌜ r ≡ recordAt at (now (bytes .entry)) ⌝ }
+{
+    let mut part = [0u8; RECORD_LENGTH];
+    octets::fill(&mut part, bytes, at);
+    record_whole(&part, 0)
+}
+
+// The record at an index, whether it can be or not. Bytes that are not there read as zeros.
+pub fn read_record(bytes: &[u8], at: usize) -> Tree
+    ensures { λ r. ⌜ r ≡ recordAt at (now (bytes .entry)) ⌝ }
+{
+    if bytes.len() < RECORD_LENGTH {
+        return record_padded(bytes, at);
+    }
+    if bytes.len() - RECORD_LENGTH < at {
+        return record_padded(bytes, at);
+    }
+    record_whole(bytes, at)
+}
+
+// Writes a record from an index on, and answers whether it fitted. Where it does not, the bytes stay.
+pub fn write_record(bytes: &mut [u8], at: usize, tree: Tree) -> bool
+    ensures { λ r. ⌜ r ≡ fitsIn at (recordBytes tree) (now (bytes .entry)) ⌝ }
+    ensures { λ _. ⌜ now (bytes .exit) ≡ pasted at (recordBytes tree) (now (bytes .entry)) ⌝ }
+{
+    if bytes.len() < RECORD_LENGTH {
+        return false;
+    }
+    if bytes.len() - RECORD_LENGTH < at {
+        return false;
+    }
+    let leaves = octets::le_bytes32(tree.leaves);
+    let nodes = tree.nodes;
+    octets::copy_in(bytes, at, &leaves);
+    octets::copy_in(bytes, at + 4, &nodes);
+    true
 }

@@ -7,7 +7,7 @@ returns : tie.Need-returns
 unfolding ledgerOf
 returns c =
     let k = c .before in
-    rw (k .read-counts .ensures, k .before .nodes-in .ensures)
+    rw (k .read-counts .ensures, k .before .read-record .ensures)
 
 pub read-spec : {M : Type 1} → statement M
 read-spec = tie.close (tie.spec (λ c κs. search needs) (λ c κs. search needs) returns)

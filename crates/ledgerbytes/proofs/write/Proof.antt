@@ -3,6 +3,8 @@ use native.Mathlib.Omega.{arith}
 use lib.ListN.{length}
 use borrow.Author.Tests.{eq-eqb, ne-eqb}
 use Rattle.octets.proofs.Joining.{start, next, done}
+use Rattle.tree.specs.RecordBytes.{recordBytes}
+use Rattle.tree.proofs.RecordLaws.{record-long}
 use Rattle.ledgerbytes.specs.LedgerBytes.{ledgerBytes, bufferAfterWrite}
 use borrow.Author.Needs.{needs}
 use Rattle.ledgerbytes.proofs.write.Statement.{statement}
@@ -22,16 +24,16 @@ returns-2 : tie.Need-returns-2
 unfolding bufferAfterWrite ledgerBytes
 returns-2 c =
     let c2 = c .before .before in
-    let c1 = c2 .before .before .before .before .before in
-    let front = c1 .before .before .before .before .before in
+    let c1 = c2 .before .before .before .before in
+    let front = c1 .before .before .before .before in
     let a = front .before .before .before .args in
     let b = a .bytes .now in
     let e : length b ≡ 988 = omega arith in
-    let hf : length (front .head .result) ≡ 28 = search needs in
-    let hn : length (a .ledger .tree .nodes) ≡ 960 = nodes-long (front .before .before .before) in
-    let l1 = next (front .head .result) _ 28 960 (omega arith) (omega arith) (c1 .copy-in .ensures .1) (start b 988 e) in (
+    let hf : length (front .head .result) ≡ 24 = search needs in
+    let hr : length (recordBytes (a .ledger .tree)) ≡ 964 = record-long (a .ledger .tree) (nodes-long (front .before .before .before)) in
+    let l1 = next (front .head .result) _ 24 964 (omega arith) (omega arith) (c1 .copy-in .ensures .1) (start b 988 e) in (
       sym (eq-eqb (length b) 988 e),
-      done (next (a .ledger .tree .nodes) _ 988 0 (omega arith) (omega arith) (c2 .copy-in2 .ensures .1) l1) ∙ rw (eq-eqb (length b) 988 e, front .head .ensures),
+      done (next (recordBytes (a .ledger .tree)) _ 988 0 (omega arith) (omega arith) (c2 .write-record .ensures .1) l1) ∙ rw (eq-eqb (length b) 988 e, front .head .ensures),
     )
 
 pub write-spec : {M : Type 1} → statement M
@@ -42,7 +44,6 @@ write-spec =
     (λ c κs. search needs)
     (λ c. search needs)
     (λ c κs. search needs)
-    (λ c. search needs)
     (λ c κs. search needs)
     (λ c. search needs)
     returns-2)

@@ -2,34 +2,35 @@
 -- Assumes nothing.
 use Prim.Native.Nat.{ℕ, _+_, _*_, _/_, _≤_, _^_}
 use mathlib.Core.Path.{_≡_, refl, sym, ap, _∙_}
-use mathlib.Core.Logic.{inl, inr}
+use mathlib.Core.Logic.{inl}
 use mathlib.Core.Bool.{true, false, not}
-use mathlib.Core.List.{List, [], _∷_}
+use mathlib.Core.List.{List, [], _∷_, List·Memᴰ, List·Memᴰ·head, List·Memᴰ·tail}
 use native.Mathlib.Omega.{arith}
 use lib.IntN.{ℤ, pos, natAbs, negℤ, _+ℤ_, _-ℤ_, +ℤ-assoc, +ℤ-comm}
 use lib.ListN.{length}
 use Rattle.octets.specs.Parts.{same}
-use Rattle.octets.specs.Rows.{rowsOf}
+use Rattle.octets.specs.Rows.{rowsOf, Long}
 use Rattle.units.specs.Limits.{maxMoney}
 use Rattle.tree.specs.declared.Tree.{Tree}
 use Rattle.tree.specs.Record.{withLeafOf, grown}
 use Rattle.tree.proofs.Grown.{with-leaf, grown-append}
 use Rattle.ledger.specs.declared.Ledger.{Ledger}
-use Rattle.ledger.specs.Sorted.{rising, insert}
+use Rattle.ledger.specs.Sorted.{rising, insert, insertAll}
 use Rattle.ledger.specs.Rows.{byteOrder, tableWithTwo, among}
 use Rattle.ledger.specs.Ledgers.{mostNullifiers, spentRows, enteredOf, Ready}
 use Rattle.ledger.proofs.ByteOrder.{byte-total}
-use Rattle.ledger.proofs.Members.{insert-member}
+use Rattle.ledger.proofs.Several.{Each, New, all-member}
 use Rattle.ledger.proofs.Signed.{abs-plus, abs-minus}
 use Rattle.ledger.proofs.Soundness.{Sound, within, at-most, among-found, member-among}
-use Rattle.ledger.proofs.TableLaws.{entered-rows, entered-length, entered-rising, entered-gap}
+use Rattle.ledger.proofs.TableLaws.{rows-with, length-with, rising-with, gap-with, fresh-new}
 
--- two leaves more are two leaves more
-two-leaves : (t : Tree) (x y : List ℕ) → t .leaves + 2 ≤ 2 ^ 29 → grown t (x ∷ y ∷ []) .leaves ≡ t .leaves + 2
+-- some leaves more are so many leaves more
+leaves-more : (t : Tree) (xs : List (List ℕ)) → t .leaves + length xs ≤ 2 ^ 29 → grown t xs .leaves ≡ t .leaves + length xs
 unfolding grown
-two-leaves t x y h =
+leaves-more t [] h = omega arith
+leaves-more t (x ∷ xs) h =
     let e : withLeafOf t x .leaves ≡ t .leaves + 1 = ap (λ (u : Tree). u .leaves) (with-leaf t x (omega arith)) in
-    ap (λ (u : Tree). u .leaves) (with-leaf (withLeafOf t x) y (omega arith)) ∙ omega arith
+    omega (arith, leaves-more (withLeafOf t x) xs (omega arith))
 
 -- case one, of two nullifiers a and b, two commitments x and y, and public values old and new
 module _ (t r : List ℕ) (l : Ledger) (a b x y : List ℕ) (old new : ℕ) (s : Sound t r l) (g : Ready t l a b old new)
@@ -40,19 +41,33 @@ module _ (t r : List ℕ) (l : Ledger) (a b x y : List ℕ) (old new : ℕ) (s :
   abbrev pub table : List ℕ
   table = tableWithTwo (l .nullifiers) t a b
 
+  abbrev both : List (List ℕ)
+  both = a ∷ b ∷ []
+
   space : (l .nullifiers + 2) * 32 ≤ length t
   space = within (l .nullifiers + 2) mostNullifiers (length t) (g .room)
 
+  both-long : Long both
+  unfolding Long
+  both-long = (ha, (hb, tt))
+
+  both-new : New byteOrder both (rowsOf (l .nullifiers) t)
+  both-new = fresh-new (l .nullifiers) t a b (g .fresh)
+
   pub table-length : length table ≡ length t
-  table-length = entered-length (l .nullifiers) t a b space ha hb (g .fresh)
+  table-length = length-with (l .nullifiers) t both space both-long both-new
+
+  all-after : spentRows table after ≡ insertAll byteOrder both (spentRows t l)
+  unfolding spentRows enteredOf
+  all-after = rows-with (l .nullifiers) t both space both-long both-new
 
   pub rows-after : spentRows table after ≡ insert byteOrder b (insert byteOrder a (spentRows t l))
-  unfolding spentRows enteredOf
-  rows-after = entered-rows (l .nullifiers) t a b space ha hb (g .fresh)
+  unfolding insertAll
+  rows-after = all-after
 
   rises-after : rising byteOrder (spentRows table after) ≡ true
   unfolding spentRows enteredOf
-  rises-after = entered-rising (l .nullifiers) t a b space ha hb (g .fresh) (s .rises)
+  rises-after = rising-with (l .nullifiers) t both space both-long both-new (s .rises)
 
   -- the pool stays as near to zero as one case more allows
   pool-after : old + new ≤ maxMoney → natAbs (after .pool .0) ≤ (l .nullifiers + 2) / 2 * maxMoney
@@ -68,7 +83,7 @@ module _ (t r : List ℕ) (l : Ledger) (a b x y : List ℕ) (old new : ℕ) (s :
         even = omega (arith, s .even);
         fits = rw table-length (g .room);
         rises = rises-after;
-        leaves = two-leaves (l .tree) x y (omega (arith, at-most (l .nullifiers + 2) mostNullifiers (length t) (g .room), s .leaves)) ∙ ap (λ (n : ℕ). n + 2) (s .leaves);
+        leaves = leaves-more (l .tree) (x ∷ y ∷ []) (omega (arith, at-most (l .nullifiers + 2) mostNullifiers (length t) (g .room), s .leaves)) ∙ ap (λ (n : ℕ). n + 2) (s .leaves);
         anchored = s .anchored;
         roll = s .roll;
         pool = pool-after h;
@@ -76,23 +91,21 @@ module _ (t r : List ℕ) (l : Ledger) (a b x y : List ℕ) (old new : ℕ) (s :
 
   -- another row stands there as before
   pub among-other : (z : List ℕ) → same a z ≡ false → same b z ≡ false → among z (spentRows table after) ≡ among z (spentRows t l)
-  unfolding spentRows enteredOf
+  unfolding spentRows enteredOf Each
   among-other z p q =
       among-found z (rowsOf (l .nullifiers + 2) table) rises-after
-      ∙ ap not (entered-gap (l .nullifiers) t a b space ha hb (g .fresh) z p q)
+      ∙ ap not (gap-with (l .nullifiers) t both space both-long both-new z (p, (q, tt)))
       ∙ sym (among-found z (rowsOf (l .nullifiers) t) (s .rises))
 
-  -- and the two new ones stand there
+  -- and the new ones stand there
+  among-new : (z : List ℕ) → List·Memᴰ z both → among z (spentRows table after) ≡ true
+  among-new z m = rw all-after (member-among z (insertAll byteOrder both (spentRows t l)) (all-member byteOrder byte-total both z (spentRows t l) (inl m)))
+
   pub among-first : among a (spentRows table after) ≡ true
-  among-first =
-      rw rows-after
-      (member-among a (insert byteOrder b (insert byteOrder a (spentRows t l)))
-      (insert-member byteOrder byte-total b a (insert byteOrder a (spentRows t l)) (inr (insert-member byteOrder byte-total a a (spentRows t l) (inl refl)))))
+  among-first = among-new a (List·Memᴰ·head refl)
 
   pub among-second : among b (spentRows table after) ≡ true
-  among-second =
-      rw rows-after
-      (member-among b (insert byteOrder b (insert byteOrder a (spentRows t l))) (insert-member byteOrder byte-total b b (insert byteOrder a (spentRows t l)) (inl refl)))
+  among-second = among-new b (List·Memᴰ·tail (List·Memᴰ·head refl))
 
 -- what two cases do to the pool they do in either order
 joined : (p a b : ℤ) → p +ℤ a -ℤ b ≡ p +ℤ (a -ℤ b)

@@ -1,6 +1,7 @@
 pub mod ByteOrder
 pub mod Members
 pub mod RowLaws
+pub mod Several
 pub mod Sorting
 pub mod TableLaws
 pub mod Signed

@@ -12,8 +12,8 @@ use Rattle.octets.specs.Parts.{pasted}
 use Rattle.octets.specs.Rows.{rowsOf, flat}
 use Rattle.octets.proofs.PartLaws.{pasted-is}
 use Rattle.octets.proofs.RowLaws.{rows-length, rows-at, take-rows, drop-rows, flat-append, flat-rows}
-use Rattle.ledger.specs.Sorted.{rowNumbered, isLess, isEqual, placeOf, isGap, rising, find}
-use Rattle.ledger.specs.Rows.{byteOrder, rowAt, shifted, withRow, among}
+use Rattle.ledger.specs.Sorted.{rowNumbered, isLess, isEqual, placeOf, isGap, rising, find, insertAll}
+use Rattle.ledger.specs.Rows.{byteOrder, rowAt, shifted, tableWith, withRow, among}
 use Rattle.ledger.specs.declared.Order.the-variants.{Less, Equal, Greater}
 use Rattle.ledger.specs.declared.Found.the-variants.{At, Gap}
 use Rattle.ledger.proofs.ByteOrder.{byte-total, same-order}
@@ -98,7 +98,7 @@ module _ (n k : ℕ) (t r : List ℕ) (room : (n + 1) * 32 ≤ length t) (long :
   putIn = take (k * 32) t ++ (r ++ (take ((n - k) * 32) (drop (k * 32) t) ++ drop ((n + 1) * 32) t))
 
   by-rows : isGap (find byteOrder r (rowsOf n t)) ≡ true → withRow n t r ≡ putIn
-  unfolding withRow flat
+  unfolding tableWith insertAll flat
   by-rows g =
       rw (insert-gap byteOrder byte-total r (rowsOf n t) g, ← at, take-rows k n t place-rows, drop-rows k n t place-rows, flat-append (rowsOf k t) (r ∷ rowsOf (n - k) (drop (k * 32) t)), flat-rows k t, flat-rows (n - k) (drop (k * 32) t))
       (simp append-assoc)

@@ -1,21 +1,21 @@
--- A table after rows were put in: its rows, its length, the bytes past them, and that two pairs may go in in either order.
+-- A table after some rows were put in: its rows, its length, the bytes past them, and that some and others may go in in either order.
 -- Assumes nothing.
 use Prim.Native.Nat.{ℕ, _+_, _-_, _*_, _≤_}
 use mathlib.Core.Path.{_≡_, refl, sym, ap, _∙_}
 use mathlib.Core.Bool.{true, false}
-use mathlib.Core.List.{List, [], _∷_, _++_}
+use mathlib.Core.List.{List, [], _∷_, _++_, List·Memᴰ}
 use native.Mathlib.Omega.{arith}
 use lib.ListN.{length, drop, length-append, length-drop}
 use lib.Seq.{drop-drop, drop-append-add}
 use Rattle.octets.specs.Parts.{same}
 use Rattle.octets.specs.Rows.{rowsOf, flat, Long}
 use Rattle.octets.proofs.RowLaws.{rows-length, rows-long, rows-flat-on, flat-length}
-use Rattle.ledger.specs.Sorted.{isGap, rising, find, insert}
-use Rattle.ledger.specs.Rows.{byteOrder, withRow, tableWithTwo, Fresh}
+use Rattle.ledger.specs.Sorted.{isGap, rising, find, insert, insertAll}
+use Rattle.ledger.specs.Rows.{byteOrder, tableWith, withRow, tableWithTwo, Fresh}
 use Rattle.ledger.specs.declared.Order.{Order}
 use Rattle.ledger.specs.declared.Order.the-variants.{Less, Equal, Greater}
 use Rattle.ledger.proofs.ByteOrder.{byte-total, differ-order}
-use Rattle.ledger.proofs.Sorting.{length-insert, gap-same, gap-insert, rising-insert, pairs-comm}
+use Rattle.ledger.proofs.Several.{Each, Differ, Apart, New, apart-new, rising-all, length-all, gap-all, append-all, all-comm, any-order}
 
 pub long-insert : (x : List ℕ) (l : List (List ℕ)) → length x ≡ 32 → Long l → Long (insert byteOrder x l)
 unfolding insert Long
@@ -27,109 +27,127 @@ long-insert x (y ∷ l) h g = go (byteOrder x y) refl (long-insert x l h (g .1))
     go Equal o r = simp o g
     go Greater o r = simp o (g .0, r)
 
--- one row put in
-module _ (n : ℕ) (t r : List ℕ) (room : (n + 1) * 32 ≤ length t) (long : length r ≡ 32) (gap : isGap (find byteOrder r (rowsOf n t)) ≡ true) where
-  abbrev new : List (List ℕ)
-  new = insert byteOrder r (rowsOf n t)
+-- rows that are not the same differ in byte order
+all-differ : (r : List ℕ) (rs : List (List ℕ)) → Each (λ (x : List ℕ). same x r ≡ false) rs → Each (λ (x : List ℕ). Differ byteOrder x r) rs
+unfolding Each
+all-differ r [] d = tt
+all-differ r (x ∷ rs) d = (differ-order x r (d .0), all-differ r rs (d .1))
 
-  new-long : Long new
-  new-long = long-insert r (rowsOf n t) long (rows-long n t (omega arith))
+long-all : (rs l : List (List ℕ)) → Long rs → Long l → Long (insertAll byteOrder rs l)
+unfolding insertAll Long
+long-all [] l h g = g
+long-all (r ∷ rs) l h g = long-all rs (insert byteOrder r l) (h .1) (long-insert r l (h .0) g)
 
-  new-length : length new ≡ n + 1
-  new-length = omega (arith, length-insert byteOrder byte-total r (rowsOf n t) gap, rows-length n t)
+with-is : (n : ℕ) (t : List ℕ) (rs : List (List ℕ)) → tableWith n t rs ≡ flat (insertAll byteOrder rs (rowsOf n t)) ++ drop ((n + length rs) * 32) t
+unfolding tableWith
+with-is n t rs = refl
 
-  new-bytes : length (flat new) ≡ (n + 1) * 32
-  new-bytes = omega (arith, flat-length new new-long, new-length)
+-- some rows put in
+module _ (n : ℕ) (t : List ℕ) (rs : List (List ℕ)) (room : (n + length rs) * 32 ≤ length t) (long : Long rs) (new : New byteOrder rs (rowsOf n t)) where
+  abbrev all : List (List ℕ)
+  all = insertAll byteOrder rs (rowsOf n t)
 
-  pub rows-with : rowsOf (n + 1) (withRow n t r) ≡ insert byteOrder r (rowsOf n t)
-  unfolding withRow
-  rows-with = rw (← new-length) (rows-flat-on new (drop (length new * 32) t) new-long)
+  all-long : Long all
+  all-long = long-all rs (rowsOf n t) long (rows-long n t (omega arith))
 
-  pub length-with : length (withRow n t r) ≡ length t
-  unfolding withRow
-  length-with = omega (arith, length-append (flat new) (drop ((n + 1) * 32) t), new-bytes, length-drop ((n + 1) * 32) t)
+  all-length : length all ≡ n + length rs
+  all-length = omega (arith, length-all byteOrder byte-total rs (rowsOf n t) new, rows-length n t)
+
+  all-bytes : length (flat all) ≡ (n + length rs) * 32
+  all-bytes = omega (arith, flat-length all all-long, all-length)
+
+  pub rows-with : rowsOf (n + length rs) (tableWith n t rs) ≡ insertAll byteOrder rs (rowsOf n t)
+  unfolding tableWith
+  rows-with = rw (← all-length) (rows-flat-on all (drop (length all * 32) t) all-long)
+
+  pub length-with : length (tableWith n t rs) ≡ length t
+  unfolding tableWith
+  length-with = omega (arith, length-append (flat all) (drop ((n + length rs) * 32) t), all-bytes, length-drop ((n + length rs) * 32) t)
 
   -- the bytes from a later row on
-  pub drop-with : (k : ℕ) → n + 1 ≤ k → drop (k * 32) (withRow n t r) ≡ drop (k * 32) t
-  unfolding withRow
+  pub drop-with : (k : ℕ) → n + length rs ≤ k → drop (k * 32) (tableWith n t rs) ≡ drop (k * 32) t
+  unfolding tableWith
   drop-with k h =
-      let e : k * 32 ≡ length (flat new) + (k * 32 - (n + 1) * 32) = omega (arith, new-bytes) in
-      let f : (n + 1) * 32 + (k * 32 - (n + 1) * 32) ≡ k * 32 = omega arith in
-      ap (λ (m : ℕ). drop m (flat new ++ drop ((n + 1) * 32) t)) e
-      ∙ drop-append-add (flat new) (drop ((n + 1) * 32) t) (k * 32 - (n + 1) * 32)
-      ∙ drop-drop (k * 32 - (n + 1) * 32) ((n + 1) * 32) t
-      ∙ ap (λ (m : ℕ). drop m t) f
+      let m = (n + length rs) * 32 in
+      let e : k * 32 ≡ length (flat all) + (k * 32 - m) = omega (arith, all-bytes) in
+      let f : m + (k * 32 - m) ≡ k * 32 = omega arith in
+      ap (λ (j : ℕ). drop j (flat all ++ drop m t)) e
+      ∙ drop-append-add (flat all) (drop m t) (k * 32 - m)
+      ∙ drop-drop (k * 32 - m) m t
+      ∙ ap (λ (j : ℕ). drop j t) f
 
-with-is : (n : ℕ) (t r : List ℕ) → withRow n t r ≡ flat (insert byteOrder r (rowsOf n t)) ++ drop ((n + 1) * 32) t
-unfolding withRow
-with-is n t r = refl
+  -- the rows still rise
+  pub rising-with : rising byteOrder (rowsOf n t) ≡ true → rising byteOrder (rowsOf (n + length rs) (tableWith n t rs)) ≡ true
+  rising-with h = rw rows-with (rising-all byteOrder byte-total rs (rowsOf n t) h)
 
-entered-is : (n : ℕ) (t a b : List ℕ) → tableWithTwo n t a b ≡ flat (insert byteOrder b (insert byteOrder a (rowsOf n t))) ++ drop ((n + 2) * 32) t
-unfolding tableWithTwo
-entered-is n t a b = refl
+  -- whether another row stands there has not changed
+  pub gap-with : (r : List ℕ) → Each (λ (x : List ℕ). same x r ≡ false) rs
+      → isGap (find byteOrder r (rowsOf (n + length rs) (tableWith n t rs))) ≡ isGap (find byteOrder r (rowsOf n t))
+  gap-with r d = rw rows-with (gap-all byteOrder byte-total r rs (rowsOf n t) (all-differ r rs d))
+
+  -- others put in behind them: all are in
+  pub with-more : (ss : List (List ℕ)) → tableWith (n + length rs) (tableWith n t rs) ss ≡ tableWith n t (rs ++ ss)
+  with-more ss =
+      let e : n + length (rs ++ ss) ≡ n + length rs + length ss = omega (arith, length-append rs ss) in
+      with-is (n + length rs) (tableWith n t rs) ss
+      ∙ rw (rows-with, drop-with (n + length rs + length ss) (omega arith))
+      (sym (with-is n t (rs ++ ss) ∙ rw (e, append-all byteOrder byte-total rs ss (rowsOf n t))))
+
+-- some rows and others, each of which can be put in: the bytes are the same in either order
+pub order-free : (n : ℕ) (t : List ℕ) (rs ss : List (List ℕ)) → (n + length rs + length ss) * 32 ≤ length t → Long rs → Long ss
+    → New byteOrder rs (rowsOf n t) → New byteOrder ss (rowsOf n t)
+    → tableWith (n + length rs) (tableWith n t rs) ss ≡ tableWith (n + length ss) (tableWith n t ss) rs
+order-free n t rs ss room lr ls nr ns =
+    let e : n + length rs + length ss ≡ n + length ss + length rs = omega arith in
+    with-is (n + length rs) (tableWith n t rs) ss
+    ∙ rw (rows-with n t rs (omega arith) lr nr, drop-with n t rs (omega arith) lr nr (n + length rs + length ss) (omega arith), all-comm byteOrder byte-total ss rs (rowsOf n t), e)
+    (sym (with-is (n + length ss) (tableWith n t ss) rs ∙ rw (rows-with n t ss (omega arith) ls ns, drop-with n t ss (omega arith) ls ns (n + length ss + length rs) (omega arith))))
+
+-- as many rows put in in any other order: the same bytes
+pub any-order-with : (n : ℕ) (t : List ℕ) (rs ss : List (List ℕ)) → rising byteOrder (rowsOf n t) ≡ true → length rs ≡ length ss
+    → ((z : List ℕ) → List·Memᴰ z rs → List·Memᴰ z ss) → ((z : List ℕ) → List·Memᴰ z ss → List·Memᴰ z rs) → tableWith n t rs ≡ tableWith n t ss
+any-order-with n t rs ss h e to from =
+    with-is n t rs ∙ rw (any-order byteOrder byte-total rs ss (rowsOf n t) h to from, e) (sym (with-is n t ss))
+
+-- two rows that can be put in, as a list
+pub fresh-new : (n : ℕ) (t a b : List ℕ) → Fresh n t a b → New byteOrder (a ∷ b ∷ []) (rowsOf n t)
+unfolding Each Apart
+fresh-new n t a b f =
+    apart-new byteOrder byte-total (a ∷ b ∷ []) (rowsOf n t) ((differ-order a b (f .differ), tt), (tt, tt)) (f .gap-a, (f .gap-b, tt))
 
 -- two rows put in, one after the other
 module _ (n : ℕ) (t a b : List ℕ) (room : (n + 2) * 32 ≤ length t) (long-a : length a ≡ 32) (f : Fresh n t a b) where
-  first-rows : rowsOf (n + 1) (withRow n t a) ≡ insert byteOrder a (rowsOf n t)
-  first-rows = rows-with n t a (omega arith) long-a (f .gap-a)
+  one-long : Long (a ∷ [])
+  unfolding Long
+  one-long = (long-a, tt)
 
-  first-length : length (withRow n t a) ≡ length t
-  first-length = length-with n t a (omega arith) long-a (f .gap-a)
+  one-new : New byteOrder (a ∷ []) (rowsOf n t)
+  unfolding New
+  one-new = (f .gap-a, tt)
 
   -- after the first the second can go in
   pub second-room : (n + 1 + 1) * 32 ≤ length (withRow n t a)
-  second-room = omega (arith, first-length)
+  second-room = omega (arith, length-with n t (a ∷ []) (omega arith) one-long one-new)
 
   pub second-rising : rising byteOrder (rowsOf n t) ≡ true → rising byteOrder (rowsOf (n + 1) (withRow n t a)) ≡ true
-  second-rising h = rw first-rows (rising-insert byteOrder byte-total a (rowsOf n t) h)
+  second-rising h = rising-with n t (a ∷ []) (omega arith) one-long one-new h
 
   pub second-gap : isGap (find byteOrder b (rowsOf (n + 1) (withRow n t a))) ≡ true
-  second-gap = rw first-rows (gap-insert byteOrder byte-total a b (rowsOf n t) (differ-order a b (f .differ)) (f .gap-b))
+  unfolding Each
+  second-gap = gap-with n t (a ∷ []) (omega arith) one-long one-new b (f .differ, tt) ∙ f .gap-b
 
   -- and then both are in
   pub entered-both : withRow (n + 1) (withRow n t a) b ≡ tableWithTwo n t a b
-  entered-both =
-      let e : n + 1 + 1 ≡ n + 2 = omega arith in
-      with-is (n + 1) (withRow n t a) b
-      ∙ rw (first-rows, drop-with n t a (omega arith) long-a (f .gap-a) (n + 1 + 1) (omega arith), e) (sym (entered-is n t a b))
+  entered-both = with-more n t (a ∷ []) (omega arith) one-long one-new (b ∷ [])
 
--- the table that then is
-module _ (n : ℕ) (t a b : List ℕ) (room : (n + 2) * 32 ≤ length t) (long-a : length a ≡ 32) (long-b : length b ≡ 32) (f : Fresh n t a b) where
-  pub entered-rows : rowsOf (n + 2) (tableWithTwo n t a b) ≡ insert byteOrder b (insert byteOrder a (rowsOf n t))
-  entered-rows =
-      let e : n + 2 ≡ n + 1 + 1 = omega arith in
-      rw (← entered-both n t a b room long-a f, e) (rows-with (n + 1) (withRow n t a) b (second-room n t a b room long-a f) long-b (second-gap n t a b room long-a f) ∙ ap (insert byteOrder b) (first-rows n t a b room long-a f))
+-- the bytes from a later row on, and two pairs in either order: what is asked of two rows by name
+pub entered-drop : (n : ℕ) (t a b : List ℕ) → (n + 2) * 32 ≤ length t → length a ≡ 32 → length b ≡ 32 → Fresh n t a b
+    → (k : ℕ) → n + 2 ≤ k → drop (k * 32) (tableWithTwo n t a b) ≡ drop (k * 32) t
+unfolding Long
+entered-drop n t a b room ha hb f = drop-with n t (a ∷ b ∷ []) room (ha, (hb, tt)) (fresh-new n t a b f)
 
-  pub entered-length : length (tableWithTwo n t a b) ≡ length t
-  entered-length = rw (← entered-both n t a b room long-a f) (length-with (n + 1) (withRow n t a) b (second-room n t a b room long-a f) long-b (second-gap n t a b room long-a f) ∙ first-length n t a b room long-a f)
-
-  -- the bytes from a later row on
-  pub entered-drop : (k : ℕ) → n + 2 ≤ k → drop (k * 32) (tableWithTwo n t a b) ≡ drop (k * 32) t
-  entered-drop k h =
-      rw (← entered-both n t a b room long-a f)
-      (drop-with (n + 1) (withRow n t a) b (second-room n t a b room long-a f) long-b (second-gap n t a b room long-a f) k (omega arith) ∙ drop-with n t a (omega arith) long-a (f .gap-a) k (omega arith))
-
-  -- the rows still rise
-  pub entered-rising : rising byteOrder (rowsOf n t) ≡ true → rising byteOrder (rowsOf (n + 2) (tableWithTwo n t a b)) ≡ true
-  entered-rising h =
-      rw entered-rows (rising-insert byteOrder byte-total b (insert byteOrder a (rowsOf n t)) (rising-insert byteOrder byte-total a (rowsOf n t) h))
-
-  -- whether another row stands there has not changed
-  pub entered-gap : (r : List ℕ) → same a r ≡ false → same b r ≡ false
-      → isGap (find byteOrder r (rowsOf (n + 2) (tableWithTwo n t a b))) ≡ isGap (find byteOrder r (rowsOf n t))
-  entered-gap r ha hb =
-      rw entered-rows
-      (gap-same byteOrder byte-total b r (insert byteOrder a (rowsOf n t)) (differ-order b r hb) ∙ gap-same byteOrder byte-total a r (rowsOf n t) (differ-order a r ha))
-
--- two pairs, each of which can be put in: the bytes are the same in either order
 pub either-order : (n : ℕ) (t a b c d : List ℕ) → (n + 4) * 32 ≤ length t → Long (a ∷ b ∷ c ∷ d ∷ []) → Fresh n t a b → Fresh n t c d
     → tableWithTwo (n + 2) (tableWithTwo n t a b) c d ≡ tableWithTwo (n + 2) (tableWithTwo n t c d) a b
 unfolding Long
 either-order n t a b c d room long f g =
-    let la = long .0 in
-    let lb = long .1 .0 in
-    let lc = long .1 .1 .0 in
-    let ld = long .1 .1 .1 .0 in
-    entered-is (n + 2) (tableWithTwo n t a b) c d
-    ∙ rw (entered-rows n t a b (omega arith) la lb f, entered-drop n t a b (omega arith) la lb f (n + 2 + 2) (omega arith), pairs-comm byteOrder byte-total a b c d (rowsOf n t))
-    (sym (entered-is (n + 2) (tableWithTwo n t c d) a b ∙ rw (entered-rows n t c d (omega arith) lc ld g, entered-drop n t c d (omega arith) lc ld g (n + 2 + 2) (omega arith))))
+    order-free n t (a ∷ b ∷ []) (c ∷ d ∷ []) (omega arith) (long .0, (long .1 .0, tt)) (long .1 .1) (fresh-new n t a b f) (fresh-new n t c d g)

@@ -9,7 +9,7 @@ use Rattle.casefile.specs.Layout.{caseLength, proofLength}
 use Rattle.casefile.specs.Fields.{hasLength}
 
 -- a file's length decides how long its proof is
-proof-by-length : (c d : List ℕ) → length c ≡ length d → proofLength c ≡ proofLength d
+pub proof-by-length : (c d : List ℕ) → length c ≡ length d → proofLength c ≡ proofLength d
 unfolding proofLength
 proof-by-length c d e = refl
 

@@ -1,3 +1,4 @@
 pub mod AgreementLaws
 pub mod LayoutLaws
 mod Places
+pub mod WritingLaws

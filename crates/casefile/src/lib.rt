@@ -1,10 +1,12 @@
-// Where each field of a case lies, and reading it. Every reader takes any slice: where the file has
-// ended it reads zeros, so that nothing has to be asked before. Offsets are the definition's
-// (specs/Layout.antt), which the proofs compute. What the fields must satisfy is left to `statement`.
+// Where each field of a case lies, reading it, and writing those that are worked out. Every reader takes
+// any slice: where the file has ended it reads zeros, so that nothing has to be asked before. Offsets are
+// the definition's (specs/Layout.antt), which the proofs compute. What the fields must satisfy is left to
+// `statement`.
 ghost use mathlib.Core.Path.{_≡_};
 ghost use Prim.Native.Nat.{_+_, _≤_};
 ghost use Rattle.units.specs.Pairs.{numberOf, ofPair};
-ghost use Rattle.casefile.specs.Layout.{presentOf, ofOld};
+ghost use Rattle.casefile.specs.Layout.{presentOf, nullifier as nullifierField, commitment as commitmentField, tag as tagField, ofOld, ofNew};
+ghost use Rattle.casefile.specs.Writing.{hasPlace, putPart};
 ghost use Rattle.casefile.specs.Fields.{hasLength, vpubOldOf, vpubNewOf, anchorOf, nullifierOf, commitmentOf, seedOf, tagOf, transactionKeyOf, oldKeyOf, oldAddressOf, oldValueOf, oldRhoOf, oldTrapdoorOf, oldPositionOf, newAddressOf, newValueOf, newRhoOf, newTrapdoorOf, phiOf};
 use units::Amount;
 use units::Position;
@@ -22,6 +24,37 @@ fn spot(i: Which, start: usize, step: usize) -> usize
         Which::First => start,
         Which::Second => start + step,
     }
+}
+
+// Where those lie that are not only read but written too.
+fn nullifier_at(i: Which) -> usize
+    ensures { λ r. ⌜ r ≡ ofPair i 48 (48 + 32) ⌝ }
+{
+    spot(i, 48, 32)
+}
+
+fn commitment_at(i: Which) -> usize
+    ensures { λ r. ⌜ r ≡ ofPair i 112 (112 + 32) ⌝ }
+{
+    spot(i, 112, 32)
+}
+
+fn tag_at(i: Which) -> usize
+    ensures { λ r. ⌜ r ≡ ofPair i 240 (240 + 32) ⌝ }
+{
+    spot(i, 240, 32)
+}
+
+fn old_address_at(i: Which) -> usize
+    ensures { λ r. ⌜ r ≡ ofPair i 1866 (1866 + 1068) ⌝ }
+{
+    spot(i, 1866, 1068)
+}
+
+fn new_rho_at(i: Which) -> usize
+    ensures { λ r. ⌜ r ≡ ofPair i 4010 (4010 + 104) ⌝ }
+{
+    spot(i, 4010, 104)
 }
 
 // Whether the file has a case's length.
@@ -52,13 +85,13 @@ pub fn anchor(case: &[u8]) -> [u8; 32]
 pub fn nullifier(case: &[u8], i: Which) -> [u8; 32]
     ensures { λ r. ⌜ r ≡ nullifierOf (numberOf i) (now (case .entry)) ⌝ }
 {
-    octets::part32(case, spot(i, 48, 32))
+    octets::part32(case, nullifier_at(i))
 }
 
 pub fn commitment(case: &[u8], i: Which) -> [u8; 32]
     ensures { λ r. ⌜ r ≡ commitmentOf (numberOf i) (now (case .entry)) ⌝ }
 {
-    octets::part32(case, spot(i, 112, 32))
+    octets::part32(case, commitment_at(i))
 }
 
 pub fn seed(case: &[u8]) -> [u8; 32]
@@ -70,7 +103,7 @@ pub fn seed(case: &[u8]) -> [u8; 32]
 pub fn tag(case: &[u8], i: Which) -> [u8; 32]
     ensures { λ r. ⌜ r ≡ tagOf (numberOf i) (now (case .entry)) ⌝ }
 {
-    octets::part32(case, spot(i, 240, 32))
+    octets::part32(case, tag_at(i))
 }
 
 pub fn transaction_key(case: &[u8]) -> [u8; 32]
@@ -88,7 +121,7 @@ pub fn old_key(case: &[u8], i: Which) -> [u8; 32]
 pub fn old_address(case: &[u8], i: Which) -> [u8; 32]
     ensures { λ r. ⌜ r ≡ oldAddressOf (numberOf i) (now (case .entry)) ⌝ }
 {
-    octets::part32(case, spot(i, 1866, 1068))
+    octets::part32(case, old_address_at(i))
 }
 
 pub fn old_value(case: &[u8], i: Which) -> Amount
@@ -146,7 +179,7 @@ pub fn new_value(case: &[u8], i: Which) -> Amount
 pub fn new_rho(case: &[u8], i: Which) -> [u8; 32]
     ensures { λ r. ⌜ r ≡ newRhoOf (numberOf i) (now (case .entry)) ⌝ }
 {
-    octets::part32(case, spot(i, 4010, 104))
+    octets::part32(case, new_rho_at(i))
 }
 
 pub fn new_trapdoor(case: &[u8], i: Which) -> [u8; 32]
@@ -159,4 +192,42 @@ pub fn phi(case: &[u8]) -> [u8; 32]
     ensures { λ r. ⌜ r ≡ phiOf (now (case .entry)) ⌝ }
 {
     octets::part32(case, 4178)
+}
+
+// Writing what is worked out from the rest of a case. Each of these puts 32 bytes where the reader of its
+// name finds them, and answers whether the file has that place; where it has not, it stays as it is.
+// Nothing calls them yet: the desk, which makes whole cases, will.
+pub fn put_nullifier(case: &mut [u8], i: Which, bytes: &[u8; 32]) -> bool
+    ensures { λ r. ⌜ r ≡ hasPlace (nullifierField (numberOf i)) (now (bytes .entry)) (now (case .entry)) ⌝ }
+    ensures { λ _. ⌜ now (case .exit) ≡ putPart (nullifierField (numberOf i)) (now (bytes .entry)) (now (case .entry)) ⌝ }
+{
+    octets::copy_in(case, nullifier_at(i), bytes)
+}
+
+pub fn put_commitment(case: &mut [u8], i: Which, bytes: &[u8; 32]) -> bool
+    ensures { λ r. ⌜ r ≡ hasPlace (commitmentField (numberOf i)) (now (bytes .entry)) (now (case .entry)) ⌝ }
+    ensures { λ _. ⌜ now (case .exit) ≡ putPart (commitmentField (numberOf i)) (now (bytes .entry)) (now (case .entry)) ⌝ }
+{
+    octets::copy_in(case, commitment_at(i), bytes)
+}
+
+pub fn put_tag(case: &mut [u8], i: Which, bytes: &[u8; 32]) -> bool
+    ensures { λ r. ⌜ r ≡ hasPlace (tagField (numberOf i)) (now (bytes .entry)) (now (case .entry)) ⌝ }
+    ensures { λ _. ⌜ now (case .exit) ≡ putPart (tagField (numberOf i)) (now (bytes .entry)) (now (case .entry)) ⌝ }
+{
+    octets::copy_in(case, tag_at(i), bytes)
+}
+
+pub fn put_old_address(case: &mut [u8], i: Which, bytes: &[u8; 32]) -> bool
+    ensures { λ r. ⌜ r ≡ hasPlace (ofOld (numberOf i) 1) (now (bytes .entry)) (now (case .entry)) ⌝ }
+    ensures { λ _. ⌜ now (case .exit) ≡ putPart (ofOld (numberOf i) 1) (now (bytes .entry)) (now (case .entry)) ⌝ }
+{
+    octets::copy_in(case, old_address_at(i), bytes)
+}
+
+pub fn put_new_rho(case: &mut [u8], i: Which, bytes: &[u8; 32]) -> bool
+    ensures { λ r. ⌜ r ≡ hasPlace (ofNew (numberOf i) 2) (now (bytes .entry)) (now (case .entry)) ⌝ }
+    ensures { λ _. ⌜ now (case .exit) ≡ putPart (ofNew (numberOf i) 2) (now (bytes .entry)) (now (case .entry)) ⌝ }
+{
+    octets::copy_in(case, new_rho_at(i), bytes)
 }

@@ -10,7 +10,7 @@ returns : tie.Need-returns
 unfolding newRhoOf description oldNoteLengths newNoteLengths lengths total offset proofLength partOf
 returns c =
     let a = c .before .before .before .args in
-    c .part32 .ensures ∙ paired (λ i. newRhoOf i (a .case .now)) 4010 104 32 (a .case .now) refl refl (a .i) _ (c .before .spot .ensures)
+    c .part32 .ensures ∙ paired (λ i. newRhoOf i (a .case .now)) 4010 104 32 (a .case .now) refl refl (a .i) _ (c .before .new-rho-at .ensures)
 
 pub new-rho-spec : {M : Type 1} → statement M
 new-rho-spec = tie.close (tie.spec (λ c κs. search needs) (λ c κs. search needs) returns)

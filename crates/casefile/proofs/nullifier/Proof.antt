@@ -10,7 +10,7 @@ returns : tie.Need-returns
 unfolding nullifierOf description oldNoteLengths newNoteLengths lengths total offset proofLength partOf
 returns c =
     let a = c .before .before .before .args in
-    c .part32 .ensures ∙ paired (λ i. nullifierOf i (a .case .now)) 48 32 32 (a .case .now) refl refl (a .i) _ (c .before .spot .ensures)
+    c .part32 .ensures ∙ paired (λ i. nullifierOf i (a .case .now)) 48 32 32 (a .case .now) refl refl (a .i) _ (c .before .nullifier-at .ensures)
 
 pub nullifier-spec : {M : Type 1} → statement M
 nullifier-spec = tie.close (tie.spec (λ c κs. search needs) (λ c κs. search needs) returns)

@@ -10,7 +10,7 @@ returns : tie.Need-returns
 unfolding tagOf description oldNoteLengths newNoteLengths lengths total offset proofLength partOf
 returns c =
     let a = c .before .before .before .args in
-    c .part32 .ensures ∙ paired (λ i. tagOf i (a .case .now)) 240 32 32 (a .case .now) refl refl (a .i) _ (c .before .spot .ensures)
+    c .part32 .ensures ∙ paired (λ i. tagOf i (a .case .now)) 240 32 32 (a .case .now) refl refl (a .i) _ (c .before .tag-at .ensures)
 
 pub tag-spec : {M : Type 1} → statement M
 tag-spec = tie.close (tie.spec (λ c κs. search needs) (λ c κs. search needs) returns)

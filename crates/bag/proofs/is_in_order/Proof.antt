@@ -1,3 +1,4 @@
+-- Before each row, the whole table is in order exactly when the rows that are left are, read from the place where the next body must begin: a wrong kind or a wrong start says no, and no row left says yes.
 use Prim.Native.Nat.{_+_, _-_, _*_, _≤_}
 use mathlib.Core.Path.{_≡_, sym, _∙_}
 use native.Mathlib.Omega.{arith}

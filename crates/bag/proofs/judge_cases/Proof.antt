@@ -1,3 +1,4 @@
+-- Before row i the answers given so far stand in the array, and judging the bodies from row i on, from this table and ledger, gives what judging all cases gives (`Before`); one case judged is one turn of it.
 use lib.ListN.{length-set}
 use Prim.Native.Nat.{_-_, _≤_}
 use mathlib.Core.Path.{_≡_, refl, _∙_}

@@ -1,3 +1,4 @@
+-- The code has three returns, and each has its law of `Outcomes`: the layout is broken, the seal stops the bag, or the seal passes and `judge_cases` gives the rest.
 use Rattle.seal.specs.Pull.{sealAnswer}
 use mathlib.Core.Path.{sym, ap, _∙_}
 use borrow.Author.Tests.{not-true, not-false}

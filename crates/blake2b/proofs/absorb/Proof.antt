@@ -1,3 +1,4 @@
+-- After i turns the state is that of the message's first i blocks; all blocks but the last one are turns, and the last one, padded and marked, is the law `final-block`.
 use mathlib.Core.Path.{_≡_, refl}
 use Prim.Native.Nat.{_-_, _≤_}
 use native.Mathlib.Omega.{arith}

@@ -1,3 +1,4 @@
+-- After i turns the array has the first i bytes of the state and zeros behind them; after 32 turns it is full.
 use mathlib.Core.Path.{refl}
 use Prim.Native.Nat.{_+_, _-_, _≤_}
 use native.Mathlib.Omega.{arith}

@@ -1,3 +1,4 @@
+-- After i turns the array has the first i bytes of the state and zeros behind them; the loop ends at the digest's length n, so the zeros from n on are part of the result.
 use mathlib.Core.Path.{_≡_, refl}
 use Prim.Native.Nat.{_+_, _-_, _≤_}
 use native.Mathlib.Omega.{arith}

@@ -1,3 +1,4 @@
+-- After i turns the block has the first i bytes of the message from `at` on, and zeros behind them; when the message has ended, those zeros are the padding.
 use mathlib.Core.Path.{refl}
 use Prim.Native.Nat.{_+_, _-_, _≤_}
 use native.Mathlib.Omega.{arith}

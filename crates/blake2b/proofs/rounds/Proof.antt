@@ -1,3 +1,4 @@
+-- After i turns the working vector is the definition's after i rounds; the schedule's table is unfolded so that each of its rows is seen to be within it.
 use mathlib.Core.Path.{_≡_, refl}
 use Prim.Native.Nat.{_≤_, _-_}
 use native.Mathlib.Omega.{arith}

@@ -1,3 +1,4 @@
+-- After i turns the array has the first i words of the block and zeros behind them; after 16 turns it is full.
 use mathlib.Core.Path.{refl}
 use Prim.Native.Nat.{_≤_, _-_}
 use native.Mathlib.Omega.{arith}

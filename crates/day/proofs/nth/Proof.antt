@@ -1,3 +1,4 @@
+-- The match has one arm for each of the seven entries: an arm for a number reads that entry off the list, and the last arm, for all other numbers, is the seventh.
 use mathlib.Core.Path.{sym, _∙_}
 use native.Mathlib.Omega.{arith}
 use Rattle.day.specs.Lines.{entries}

@@ -1,3 +1,4 @@
+-- After i entries the text on the page, followed by the lines that the other entries give from these rows and this tally, is the whole day's text; with no entry left, the list and the tally end it.
 use Prim.Native.Nat.{_-_, _≤_}
 use mathlib.Core.Path.{_≡_, refl, ap, _∙_}
 use native.Mathlib.Omega.{arith}

@@ -1,3 +1,4 @@
+-- After i turns the lines of the first i rows are on the page, and are at most 67 bytes each; after four turns these are all rows.
 use Prim.Native.Nat.{_-_, _*_, _≤_, _<_}
 use mathlib.Core.Path.{_≡_, refl, ap, _∙_}
 use mathlib.Core.List.{flatMap}

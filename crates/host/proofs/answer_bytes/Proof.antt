@@ -1,3 +1,4 @@
+-- After i turns the buffer begins with the four bytes of each of the first i answers; after seven turns nothing is left behind them.
 use Prim.Native.Nat.{ℕ, _+_, _-_, _*_, _≤_, _<_}
 use mathlib.Core.List.{List, _++_}
 use mathlib.Core.Path.{_≡_, refl, ap, _∙_}

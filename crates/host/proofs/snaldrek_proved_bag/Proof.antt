@@ -1,3 +1,4 @@
+-- Four returns: a ledger of another length, a report of another length, a bag that is refused as a whole, and one that is scanned; each rewrites the definitions by the tests that led there.
 use mathlib.Core.Path.{_≡_, sym, ap, _∙_}
 use mathlib.Core.Bool.{true}
 use native.Mathlib.Omega.{arith}

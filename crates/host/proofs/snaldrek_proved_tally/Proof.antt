@@ -1,3 +1,4 @@
+-- Three returns: a tally of another length, a full one, and one that is counted and written back; each rewrites the definitions by the tests that led there.
 use mathlib.Core.Path.{_≡_, sym, ap, _∙_}
 use mathlib.Core.Bool.{true}
 use native.Mathlib.Omega.{arith}

@@ -1,3 +1,4 @@
+-- The answer from the counts alone is that of the whole ledger (`decided`); where it refuses, nothing is written, and where it does not, the roll and the bytes are those of the closed ledger.
 use mathlib.Core.Path.{_≡_, sym, ap, _∙_}
 use mathlib.Core.Bool.{true}
 use Prim.Native.Nat.{_+_, _*_}

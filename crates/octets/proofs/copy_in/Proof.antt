@@ -1,3 +1,4 @@
+-- After i turns the buffer is the old one with the first i bytes of the source pasted at `at`; both early returns are sources that do not fit, which change nothing.
 use borrow.Author.Tests.{le-leb, lt-leb}
 use lib.Seq.{paste, paste-zero}
 use Rattle.octets.specs.Parts.{fitsIn}

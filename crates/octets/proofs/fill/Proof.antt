@@ -1,3 +1,4 @@
+-- The first i bytes of the buffer are the field of i bytes at `at`; the loop ends at the buffer's own length, so that the whole buffer is the field of that length.
 use Prim.Native.Nat.{_-_, _<_, _≤_}
 use mathlib.Core.Path.{_≡_, refl, sym, _∙_}
 use native.Mathlib.Numerals.{add-one}

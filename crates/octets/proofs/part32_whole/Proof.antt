@@ -1,3 +1,4 @@
+-- After i turns the array has the first i bytes from `at` on and zeros behind them; here the source is known to be long enough, so each byte is read without a test.
 use mathlib.Core.Path.{refl}
 use Prim.Native.Nat.{_+_, _-_, _≤_}
 use native.Mathlib.Omega.{arith}

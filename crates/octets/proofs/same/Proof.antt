@@ -1,3 +1,4 @@
+-- The two texts are the same exactly when what is left of them from i on is; other lengths say no at once, a byte that differs says no, and nothing left says yes.
 use mathlib.Core.Path.{_≡_, refl, sym, _∙_}
 use Prim.Native.Nat.{_-_, _≤_}
 use native.Mathlib.Omega.{arith}

@@ -1,3 +1,4 @@
+-- After i turns the buffer is i zeros and then what was there from i on; at its end nothing of the old bytes is left.
 use Prim.Native.Nat.{ℕ, _-_, _<_, _≤_}
 use mathlib.Core.Path.{_≡_, ap, _∙_}
 use mathlib.Core.List.{List, _++_, append-nil}

@@ -1,3 +1,4 @@
+-- Each turn leaves the lengths of all four buffers as they were, and a state whose lent parts lie within table and roll; the turns count down, so the loop ends.
 use mathlib.Core.Path.{_≡_, refl}
 use lib.ListN.{length}
 use Rattle.replay.specs.Tape.{LentWithin}

@@ -1,3 +1,4 @@
+-- After i turns the lines of the first i rows are on the page; each row is the 32 bytes at its place, and after n turns these are all rows.
 use Prim.Native.Nat.{ℕ, _+_, _-_, _*_, _≤_, _<_}
 use mathlib.Core.Path.{_≡_, refl, sym, ap, _∙_}
 use mathlib.Core.List.{[], flatMap}

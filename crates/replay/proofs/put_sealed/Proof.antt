@@ -1,3 +1,4 @@
+-- One return for each outcome of a seal, in the order of the match: the one that passes has its pull in the line, and the three that refuse have their number alone.
 use mathlib.Core.Path.{refl}
 use native.Mathlib.Omega.{arith}
 use Rattle.text.proofs.PenLaws.{text-as}

@@ -1,3 +1,4 @@
+-- One return for each kind of entry, in the order of the tests; for each, a law says that the definition takes that branch, and the callee's promise is what the branch asks.
 use mathlib.Core.Path.{refl}
 use native.Mathlib.Omega.{arith}
 use Rattle.replay.proofs.KindLaws.{entry-open, entry-plant, entry-case, entry-seal, entry-no-seal, entry-name, entry-bare, entry-other}

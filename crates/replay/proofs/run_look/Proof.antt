@@ -1,3 +1,4 @@
+-- One return for each of the three things to look at and one for any other letter; the lent parts of table and roll lie within them, so that they can be read.
 use mathlib.Core.Path.{refl, sym}
 use native.Mathlib.Omega.{arith}
 use lib.Seq.{length-take-le}

@@ -1,3 +1,4 @@
+-- Where the two lengths of the entry can be lent, the lent parts lie within table and roll, and the opening's promise on those parts is carried to the whole buffers; where not, the tape is broken.
 use mathlib.Core.Path.{sym}
 use lib.Seq.{length-take-le}
 use Rattle.replay.proofs.TurnLaws.{plays-as, plays-broken, lent-table, lent-roll, lends-by, open-plays}

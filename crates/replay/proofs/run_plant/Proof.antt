@@ -1,3 +1,4 @@
+-- Where the two lengths of the entry can be lent, the two fills leave the planted bytes in the lent parts and the rest as it was, and the ledger is read from the entry; where not, the tape is broken.
 use Prim.Native.Nat.{ℕ}
 use mathlib.Core.Path.{sym}
 use lib.Seq.{length-take-le, length-front}

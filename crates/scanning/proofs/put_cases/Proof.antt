@@ -1,3 +1,4 @@
+-- After i turns the lines of the first i answers are on the page; the loop ends at n or at 7, whichever is less, and there are seven answers, so these are the first n.
 use Prim.Native.Nat.{ℕ, _-_, _*_, _≤_, _<_, min}
 use mathlib.Core.Path.{_≡_, refl, ap, _∙_}
 use mathlib.Core.List.{flatMap}

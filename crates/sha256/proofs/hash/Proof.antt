@@ -1,3 +1,4 @@
+-- After i turns the state is that of the message's first i whole blocks; what is left after the loop, with its padding, is one or two blocks, which `finish` adds.
 use mathlib.Core.Path.{_≡_, refl, _∙_}
 use Prim.Native.Nat.{_-_, _/_, _≤_}
 use native.Mathlib.Omega.{arith}

@@ -1,3 +1,4 @@
+-- After i turns the state is the definition's after 8 i rounds, since each turn makes eight; after 8 turns these are all 64.
 use mathlib.Core.Path.{_≡_, refl}
 use Prim.Native.Nat.{_-_, _*_, _≤_}
 use native.Mathlib.Omega.{arith}

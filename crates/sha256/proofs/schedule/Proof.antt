@@ -1,3 +1,4 @@
+-- After j turns the array has the block's 16 words, 4 j more and zeros behind them; a turn's four steps are one law (`grown`), used four times, and after 12 turns all 48 are there.
 use Prim.Native.Nat.{_+_, _-_, _*_, _≤_, _<_}
 use native.Mathlib.Omega.{arith}
 use Rattle.sha256.specs.Compression.{schedule}

@@ -1,3 +1,4 @@
+-- After i turns the array of 64 has the first i words of the block and zeros behind them; it stops at 16, where the schedule goes on.
 use mathlib.Core.Path.{_≡_, refl}
 use Prim.Native.Nat.{_-_, _≤_}
 use native.Mathlib.Omega.{arith}

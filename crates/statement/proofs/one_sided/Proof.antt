@@ -1,3 +1,4 @@
+-- Both public values are nonzero, or one is zero: the three returns are old value zero, new value zero, and none zero, and only the last one is refusal 4.
 use mathlib.Core.Path.{_≡_, sym, ap, _∙_}
 use Prim.Native.Nat.{ℕ}
 use mathlib.Core.Bool.{true, false, not, and-false}

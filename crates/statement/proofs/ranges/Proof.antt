@@ -1,3 +1,4 @@
+-- The rows of number 9 are asked in the table's order, note 1, note 2, phi; at each return the tests before it are known, and put into the list they leave that row as its first.
 use mathlib.Core.Path.{_≡_, sym, ap, _∙_}
 use mathlib.Core.Bool.{true, false}
 use Rattle.statement.specs.CaseRefusals.{rangeOf, no9}

@@ -1,3 +1,4 @@
+-- After i turns the first i bytes are on the page, each a text of its own of one byte; at the end these are all bytes.
 use Prim.Native.Nat.{ℕ, _-_, _*_, _≤_}
 use mathlib.Core.Path.{_≡_, refl, _∙_}
 use mathlib.Core.List.{[], _∷_, flatMap}

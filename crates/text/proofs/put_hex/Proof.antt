@@ -1,3 +1,4 @@
+-- After i turns the digits of the first i bytes are on the page, two for each; at the end these are those of all bytes.
 use Prim.Native.Nat.{ℕ, _-_, _*_, _≤_}
 use mathlib.Core.Path.{_≡_, refl, ap, _∙_}
 use mathlib.Core.List.{flatMap}

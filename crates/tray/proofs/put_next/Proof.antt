@@ -1,3 +1,4 @@
+-- One return for each kind of thing that stands next on the tray: a bag, a name, the end, or a broken tray; the bag's and the name's lengths are within the buffer by what the function asks for.
 use mathlib.Core.Path.{_≡_, sym, ap}
 use native.Mathlib.Omega.{arith}
 use Prim.Native.Nat.{_≤_}

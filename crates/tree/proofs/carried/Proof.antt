@@ -1,3 +1,4 @@
+-- Adding the leaf to the whole record is to keep its first k rows and to add x, the node that is carried, to those from k on; the loop ends where the count is even or no level is left, and there x is put in row k.
 use mathlib.Core.Path.{_≡_, refl, sym, ap, _∙_}
 use Prim.Native.Nat.{ℕ, _≤_, _-_, _%_}
 use mathlib.Core.List.{List, _++_}

@@ -1,3 +1,4 @@
+-- The end of the whole path from the leaf is that of the path from level k on, from the node reached; a turn is one step up, and after 29 turns no sibling is left.
 use mathlib.Core.Path.{_≡_, refl, sym, ap, _∙_}
 use Prim.Native.Nat.{_≤_, _-_}
 use native.Mathlib.Omega.{arith}

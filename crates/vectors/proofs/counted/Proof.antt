@@ -1,3 +1,4 @@
+-- The index stays at most 255, so that it is within the array; nothing is promised of the bytes, which the printed hashes test.
 use borrow.Author.Needs.{needs}
 use Prim.Native.Nat.{_≤_, _-_}
 use Rattle.vectors.proofs.counted.Statement.{statement}

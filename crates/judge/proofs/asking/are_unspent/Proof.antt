@@ -1,3 +1,4 @@
+-- Rows of number 8 by cases: an empty table has neither nullifier, else the first is found, only the second is, or none is; each test's result is put into the list of refusals, which then gives the answer.
 use mathlib.Core.Path.{_≡_, sym, _∙_}
 use mathlib.Core.Bool.{true, false}
 use Rattle.octets.specs.Rows.{rowsOf}

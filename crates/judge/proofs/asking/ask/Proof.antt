@@ -1,3 +1,4 @@
+-- The ledger's refusals 2, 3, 6 and 8 are asked one by one, and the case's own (4, 5 and 7) once, after 3; from there on the answer is the lower of the two, and each return shows which of them that is.
 use mathlib.Core.Path.{_≡_, refl, sym, ap, _∙_}
 use mathlib.Core.List.{List, [], _∷_}
 use mathlib.Core.Bool.{Bool, true, false, not}

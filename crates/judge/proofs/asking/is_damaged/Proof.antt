@@ -1,3 +1,4 @@
+-- Each early return is one condition of the list of damages, which holds there; at the last return the six before it were seen not to hold, so that damage is exactly that the used rows do not rise.
 use mathlib.Core.Path.{_≡_, sym, ap, _∙_}
 use Prim.Native.Nat.{_*_, _/_, _%_, _≤_, _<_}
 use mathlib.Core.Bool.{true, false, not, or-false}

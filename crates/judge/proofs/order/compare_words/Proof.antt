@@ -1,3 +1,4 @@
+-- The order of the two rows is the order of what is left of them from word k on: two words that differ decide it, two that are equal hand it on to the next, and after four the rows are equal.
 use mathlib.Core.Path.{_≡_, sym, _∙_}
 use Prim.Native.Nat.{_+_, _-_, _≤_}
 use native.Mathlib.Nat.{add-zero}

@@ -1,3 +1,4 @@
+-- As for `compare_words`, the order of the two rows is that of what is left of them from word k on; the answer is whether that order is `Equal`.
 use mathlib.Core.Path.{_≡_, sym, ap, _∙_}
 use Prim.Native.Nat.{_+_, _-_, _≤_}
 use native.Mathlib.Nat.{add-zero}

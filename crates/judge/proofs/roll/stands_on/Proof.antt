@@ -1,3 +1,4 @@
+-- A row is on the roll exactly when it is among the roll's rows from i on; each turn compares it with row i, and with no row left it is not on the roll.
 use mathlib.Core.Path.{_≡_, sym, ap, ap₂, _∙_}
 use mathlib.Core.Bool.{Bool, _||_}
 use mathlib.Core.List.{List}

@@ -1,3 +1,4 @@
+-- The place that the search gives is the definition's and not past the used rows, so the rows from there on can be moved by one and the new one pasted in; the law `put-row` says that this is entering.
 use mathlib.Core.Path.{_≡_, ap, ap₂, _∙_}
 use mathlib.Core.List.{List}
 use Prim.Native.Nat.{ℕ, _*_, _≤_}

@@ -1,3 +1,4 @@
+-- The table rises exactly when its rows from the lower one of two neighbours on do; a pair that does not rise says no, and with no pair left the answer is yes.
 use mathlib.Core.Path.{_≡_, sym, ap, ap₂, _∙_}
 use mathlib.Core.Bool.{Bool, _&&_}
 use mathlib.Core.List.{List}

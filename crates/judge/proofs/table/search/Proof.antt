@@ -1,3 +1,4 @@
+-- The row looked for is greater than the one just before i, and the table rises, so it is greater than all before i: the first row that is not smaller decides whether it stands there or goes there.
 use mathlib.Core.Path.{_≡_, sym, ap₂, _∙_}
 use mathlib.Core.List.{List}
 use Prim.Native.Nat.{ℕ, suc, _-_, _<_, _≤_}

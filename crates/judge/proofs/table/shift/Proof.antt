@@ -1,3 +1,4 @@
+-- The index falls: the bytes from i up to the end are already moved by 32 and those below i are still as they were, so that no byte is overwritten before it was moved.
 use mathlib.Core.Path.{_≡_, refl, ap, ap₂, _∙_}
 use mathlib.Core.List.{List}
 use Prim.Native.Nat.{ℕ, suc, _+_, _-_, _*_, _≤_}

@@ -1,3 +1,4 @@
+-- The record's root is what joining its nodes from level k on gives, with the node made so far and the empty root of level k; at level 29 it is that node, or the top row where the tree is full.
 use mathlib.Core.Path.{_≡_, refl, sym, _∙_}
 use Prim.Native.Nat.{_≤_, _-_}
 use native.Mathlib.Omega.{arith}

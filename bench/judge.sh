@@ -23,7 +23,7 @@ out=$(cd "$2" && pwd -P)
 cases=${3:-10000} rounds=9 seed=1
 fills='0 1000 2046'
 steps='250 500 750 1250 1500 1750' # more fills with fewer cases, for the plot
-room=$out
+scratch=$out
 
 find_linker || fail "there is no $linker that links x86-64 programs (bench/README.md)"
 find_rustc || fail "no rustc here has the standard library for $target (bench/README.md)"

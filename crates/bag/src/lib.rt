@@ -121,7 +121,7 @@ fn seal_in(bag: &[u8]) -> Read
     seal::read_body(body(bag, 0))
 }
 
-// What a scan gives that stopped at the layout or at the seal.
+// The result of a scan that stopped at the layout or at the seal.
 fn unjudged(layout: Answer, seal: Answer, ledger: Ledger) -> Scanned
     ensures { λ r. ⌜ r ≡ report layout seal [] ledger ⌝ }
 {
@@ -163,7 +163,7 @@ fn judge_cases(bag: &[u8], table: &mut [u8], roll: &[u8], start: Ledger) -> Scan
     }
 }
 
-// Scans a bag: its layout, its seal, and then its cases, on a ledger that may be any.
+// Scans a bag: its layout, its seal, and then its cases, on any ledger.
 pub fn scan(
     bag: &[u8],
     calibration: Calibration,

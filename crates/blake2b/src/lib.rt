@@ -47,7 +47,7 @@ fn rotr(x: u64, n: u64) -> u64
     x >> n ^ x << (64 - n)
 }
 
-// The sum of three words, less what it has above 64 bits.
+// The sum of three words, modulo 2^64.
 fn add3(a: u64, b: u64, c: u64) -> u64
     ensures { λ r. ⌜ r ≡ (a + b + c) % 2 ^ 64 ⌝ }
 {
@@ -315,7 +315,7 @@ fn byte(h: &[u64; 8], i: usize) -> u8
     ((h[i / 8] >> n) % 256) as u8
 }
 
-// The first 32 bytes of the state. The compiler makes four stores of whole words of the loop.
+// The first 32 bytes of the state. The compiler turns the loop into four stores of whole words.
 fn bytes32(h: &[u64; 8]) -> [u8; 32]
     ensures { λ r. ⌜ r ≡ field 0 32 (bytesOf (now (h .entry))) ⌝ }
 {

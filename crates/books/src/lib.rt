@@ -1,6 +1,6 @@
 // The shift's own books: the tally, one record changed in place, and the day list, a lent list of
-// rows of which entering an answer changes one. Beside each stands the same over plain values and
-// slices of numbers, for callers that lend no record. Which answers to enter is left to the caller.
+// rows of which entering an answer changes one. The tally has a call over plain values too, for callers
+// that lend no record. Which answers to enter is left to the caller.
 ghost use mathlib.Core.Path.{_≡_};
 ghost use Prim.Native.Nat.{_<_};
 ghost use Rattle.books.specs.Tally.{full, countOf, raised, tallyOf};

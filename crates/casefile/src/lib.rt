@@ -1,5 +1,5 @@
 // Where each field of a case lies, reading it, and writing those that are worked out. Every reader takes
-// any slice: where the file has ended it reads zeros, so that nothing has to be asked before. Offsets are
+// any slice: where the file has ended it reads zeros, so that no length has to be checked first. Offsets are
 // the definition's (specs/Layout.antt), which the proofs compute. What the fields must satisfy is left to
 // `statement`.
 ghost use mathlib.Core.Path.{_≡_};

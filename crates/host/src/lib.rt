@@ -89,7 +89,7 @@ pub extern "C" fn snaldrek_proved_root(ledger: &[u8], root: &mut [u8]) -> u32
     code(Answer::accepted())
 }
 
-// The SHA-256 of any bytes, by which a host tells a stored ledger that is torn.
+// The SHA-256 of any bytes, by which a host recognises a stored ledger that is torn.
 #[no_mangle]
 pub extern "C" fn snaldrek_proved_hash(bytes: &[u8], digest: &mut [u8]) -> u32
     ensures { λ r. ⌜ r ≡ codeOf (hashAnswer (now (digest .entry))) ⌝ }
@@ -221,7 +221,7 @@ pub extern "C" fn snaldrek_proved_bag(
     code(own)
 }
 
-// The tally that 12 bytes say.
+// The tally that 12 bytes hold.
 fn tally_in(bytes: &[u8]) -> Tally
     ensures { λ r. ⌜ r ≡ tallyIn (now (bytes .entry)) ⌝ }
 {
@@ -288,7 +288,7 @@ fn is_answer(answer: u32) -> bool
     answer == 0
 }
 
-// Rewrites one row of the day list. A row has room for a number and a place, so more is no answer.
+// Rewrites one row of the day list. A row holds a number and a place, so anything else is refused.
 #[no_mangle]
 pub extern "C" fn snaldrek_proved_day(list: &mut [u8], row: usize, seal: u32, answer: u32) -> u32
     ensures { λ r. ⌜ r ≡ codeOf (dayAnswer row answer (now (list .entry))) ⌝ }

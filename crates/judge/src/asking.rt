@@ -1,7 +1,7 @@
 // What the ledger says of a case's public part, before the case is entered: damage, room, anchor,
-// nullifiers; and what that part says for itself, between these. Of the ledger this needs its counts alone, so that a refusal never reads the tree's nodes, and
-// a field of the case is read when it is asked about. How the lent rows are walked is left to table.rt and
-// roll.rt.
+// nullifiers; and what that part says for itself, between these. Of the ledger this needs its counts alone,
+// so that a refusal never reads the tree's nodes, and a field of the case is read when it is asked about.
+// How the lent rows are walked is left to table.rt and roll.rt.
 use crate::roll::stands_on;
 use crate::table::is_rising;
 use crate::table::search;

@@ -67,7 +67,7 @@ pub fn open(roll: &mut [u8]) -> Answered
     }
 }
 
-// All of a ledger that is asked about.
+// The part of a ledger that refusals depend on.
 fn counts_of(ledger: Ledger) -> Counts
     ensures { λ r. ⌜ r ≡ countsOf ledger ⌝ }
 {

@@ -23,7 +23,7 @@ fn minus(p: i64, a: u64) -> i64
 }
 
 // The pool with what a case puts in, less what it takes out. For `enter` of this crate alone, which
-// knows that the sum has room.
+// knows that the sum stays in range.
 pub fn moved(pool: Pool, old: Amount, new: Amount) -> Pool
     requires { ⌜ natAbs (pool .0) + old .0 + new .0 < 2 ^ 63 ⌝ }
     ensures { λ r. ⌜ r .0 ≡ pool .0 +ℤ pos (old .0) -ℤ pos (new .0) ⌝ }

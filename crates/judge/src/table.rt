@@ -83,8 +83,8 @@ fn shift(table: &mut [u8], from: Row, to: Row)
     }
 }
 
-// A row that stands nowhere yet, put in where it goes. That it has 32 bytes is told to the caller too,
-// who does not learn it from the type of what he hands on.
+// Puts a row that is not in the table yet where it goes. The promise also says that the row has 32 bytes,
+// since the caller does not learn that from the type of what it passes.
 fn enter_one(table: &mut [u8], count: usize, row: &[u8; 32])
     requires { ⌜ (count + 1) * 32 ≤ length (now table) ⌝ }
     requires { ⌜ rising byteOrder (rowsOf count (now table)) ≡ true ⌝ }

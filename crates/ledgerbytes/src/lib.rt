@@ -73,7 +73,7 @@ fn leaves_in(bytes: &[u8]) -> u32
     octets::le32_of(bytes[24], bytes[25], bytes[26], bytes[27])
 }
 
-// The counts of the ledger that some bytes say; of its nodes no byte is read.
+// The counts of the ledger that the bytes hold; its nodes are not read.
 pub fn read_counts(bytes: &[u8]) -> Counts
     ensures { λ r. ⌜ r ≡ countsOf (ledgerOf (now (bytes .entry))) ⌝ }
 {
@@ -85,7 +85,7 @@ pub fn read_counts(bytes: &[u8]) -> Counts
     }
 }
 
-// The ledger that some bytes say, whether it can be or not. Bytes that are not there read as zeros.
+// The ledger that the bytes hold, damaged or not. Missing bytes read as zeros.
 pub fn read(bytes: &[u8]) -> Ledger
     ensures { λ r. ⌜ r ≡ ledgerOf (now (bytes .entry)) ⌝ }
 {

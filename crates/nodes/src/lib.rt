@@ -975,7 +975,7 @@ pub fn parent(left: &[u8; 32], right: &[u8; 32]) -> [u8; 32]
     sha256::compress_halves(left, right)
 }
 
-// The root of an empty tree of so many levels; there are at most 29.
+// The root of an empty tree of this many levels; above 29, that of 29.
 pub fn empty_root(level: usize) -> [u8; 32]
     ensures { λ r. ⌜ r ≡ emptyRoot (min level 29) ⌝ }
 {

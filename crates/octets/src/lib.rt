@@ -8,7 +8,7 @@ ghost use lib.ListN.{length, getD};
 ghost use Rattle.octets.specs.Parts.{field, fitsIn, pasted, same as sameOf};
 ghost use Rattle.octets.specs.Numbers.{little, big, littleBytes, bigBytes};
 
-// A number from its bytes. Flat sums, since the compiler makes one load of them.
+// A number from its bytes. Flat sums, since the compiler turns them into one load.
 pub fn le16_of(b0: u8, b1: u8) -> u16
     ensures { λ r. ⌜ r ≡ little (b0 ∷ b1 ∷ []) ⌝ }
 {
@@ -40,7 +40,7 @@ pub fn be32_of(b0: u8, b1: u8, b2: u8, b3: u8) -> u32
     (b0 as u32) * 16777216 + (b1 as u32) * 65536 + (b2 as u32) * 256 + (b3 as u32)
 }
 
-// In two halves, since of a sum of eight the compiler makes no load.
+// In two halves, since the compiler does not turn a sum of eight into a load.
 pub fn be64_of(b0: u8, b1: u8, b2: u8, b3: u8, b4: u8, b5: u8, b6: u8, b7: u8) -> u64
     ensures { λ r. ⌜ r ≡ big (b0 ∷ b1 ∷ b2 ∷ b3 ∷ b4 ∷ b5 ∷ b6 ∷ b7 ∷ []) ⌝ }
 {
@@ -95,7 +95,7 @@ pub fn be_bytes64(x: u64) -> [u8; 8]
     ]
 }
 
-// The byte at index at + i, which may be past any number that fits: zero where s has ended.
+// The byte at index at + i, a sum that need not fit a usize: zero where s has ended.
 pub fn byte_from(s: &[u8], at: usize, i: usize) -> u8
     ensures { λ r. ⌜ r ≡ getD (now (s .entry)) (at + i) 0 ⌝ }
 {
@@ -153,7 +153,7 @@ fn part32_whole(s: &[u8], at: usize) -> [u8; 32]
     r
 }
 
-// 32 bytes of which s may lack some, byte by byte.
+// 32 bytes, some of which may lie past the end of s, byte by byte.
 fn part32_padded(s: &[u8], at: usize) -> [u8; 32]
     ensures { λ r. ⌜ r ≡ field at 32 (now (s .entry)) ⌝ }
 {
@@ -177,7 +177,7 @@ pub fn part32(s: &[u8], at: usize) -> [u8; 32]
     part32_whole(s, at)
 }
 
-// Whether two slices have the same bytes, and as many.
+// Whether two slices have the same length and the same bytes.
 pub fn same(a: &[u8], b: &[u8]) -> bool
     ensures { λ r. ⌜ r ≡ sameOf (now (a .entry)) (now (b .entry)) ⌝ }
 {
@@ -193,7 +193,7 @@ pub fn same(a: &[u8], b: &[u8]) -> bool
     true
 }
 
-// Copies src into dst from index at on, and answers whether it fitted. Where it does not, dst stays.
+// Copies src into dst from index at on, and answers whether it fits. Where it does not, dst stays as it was.
 pub fn copy_in(dst: &mut [u8], at: usize, src: &[u8]) -> bool
     ensures { λ r. ⌜ r ≡ fitsIn at (now (src .entry)) (now (dst .entry)) ⌝ }
     ensures { λ _. ⌜ now (dst .exit) ≡ pasted at (now (src .entry)) (now (dst .entry)) ⌝ }

@@ -131,7 +131,7 @@ fn put_ledger(out: &mut [u8], l: Ledger) -> usize
     put_pool_and_root(out, anchors, l)
 }
 
-// How many of the rows that a count claims so many bytes have room for, of at most so many.
+// How many of count rows there is room for: in so many bytes, and at most so many.
 fn rows_shown(most: usize, count: usize, len: usize) -> usize
     ensures { λ r. ⌜ r ≡ min count (roomIn most len) ⌝ }
 {
@@ -300,7 +300,7 @@ fn run_case(body: &[u8], table: &mut [u8], roll: &[u8], state: State, out: &mut 
     Ran { state, end }
 }
 
-// A fresh ledger on the lent bytes as they stand: what of them changes is seen by a look before and after.
+// A fresh ledger on the lent bytes as they stand: entries that look before and after show what it changes.
 fn run_fresh(table: &[u8], roll: &mut [u8], state: State, out: &mut [u8]) -> Ran
     requires { ⌜ LentWithin state (now table) (now roll) ⌝ }
     ensures { λ a. ⌜ Plays (freshTurn (now (table .entry)) (now (roll .entry)) state) (now (table .entry)) (now (roll .exit)) (now (out .entry)) (now (out .exit)) a ⌝ }

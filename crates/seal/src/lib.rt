@@ -86,7 +86,7 @@ fn has_bad_limit(g: Gate) -> bool
     }
 }
 
-// Asked so that a NaN is never within limits: no comparison with it holds.
+// Written so that a NaN is never within the limits: no comparison with it holds.
 fn is_within(g: Gate, p: f64) -> bool
     ensures { λ r. ⌜ r ≡ within g p ⌝ }
 {

@@ -224,7 +224,7 @@ fn step(s: State, k: &[u32; 64], w: &[u32; 64], i: usize) -> State
 }
 
 // Eight rounds in a row: after so many each word is back in the register where it began, so that
-// none is moved. One call site only, so that the compiler puts it in there.
+// none is moved. One call site only, so that the compiler inlines it.
 fn eight(s: State, k: &[u32; 64], w: &[u32; 64], i: usize) -> State
     requires { ⌜ i < 57 ⌝ }
     ensures { λ r. ⌜ r ≡ roundsFrom i 8 (now (k .entry)) (now (w .entry)) s ⌝ }

@@ -1,6 +1,6 @@
 // What can be said of a case alone: refusals 1, 4, 5, 7 and 9 to 16 of document 01, asked in the
 // order of their numbers, up to the first that applies. Nothing is hashed before the cheap tests
-// have passed, and nothing is hashed twice. What a ledger has to say of a case is left to `ledger`.
+// have passed, and nothing is hashed twice. What a ledger has to say of a case is left to `judge`.
 ghost use mathlib.Core.Path.{_≡_};
 ghost use Prim.Native.Nat.{_+_, _*_, _^_, _<_};
 ghost use Rattle.units.specs.Pairs.{numberOf};

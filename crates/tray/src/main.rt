@@ -35,7 +35,7 @@ fn read_bag(buffer: &mut [u8], n: usize) -> Next
     Next::Bag(n)
 }
 
-// Those of a name, of which there are 100 at most.
+// Reads the bytes of a name, at most 100.
 fn read_name(buffer: &mut [u8], n: usize) -> Next
     ensures { λ r. ⌜ Whole r (now (buffer .exit)) ⌝ }
 {

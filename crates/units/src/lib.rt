@@ -1,6 +1,6 @@
 // Numbers of three kinds that must never be mixed: an amount of money, a leaf's position in the
 // tree, a row of a table. Each is a type of its own with a private number, so that none can be taken for
-// another, nor counted with but by the methods here. And which of a pair is meant. What is done with them
+// another, and only the methods here compute with it. And which of a pair is meant. What is done with them
 // is left to the crates above.
 ghost use mathlib.Core.Path.{_≡_};
 ghost use Prim.Native.Nat.{_+_, _-_, _/_, _%_, _^_, min};

@@ -1,3 +1,4 @@
+-- Count and nodes are two copies side by side, which are one copy of the record's bytes; where that does not fit, nothing is written.
 use Prim.Native.Nat.{ℕ, _+_, _≤_, _<_}
 use mathlib.Core.Path.{_≡_, sym, ap, _∙_}
 use mathlib.Core.Bool.{true, false}

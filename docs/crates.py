@@ -142,7 +142,7 @@ def drawing(floors, knows):
     arrows = arrows_of(knows)
     way = {tuple(pair.split()) for pair in WAY.split(",")}
     if not way <= set(arrows):
-        raise SystemExit(f"docs/crates.py: the way of a case has arrows that crates.txt has not: {sorted(way - set(arrows))}")
+        raise SystemExit(f"docs/crates.py: the way of a case has arrows that are not in crates.txt: {sorted(way - set(arrows))}")
     row = rows_of(floors, arrows)
     lines, stations = with_lanes(row, arrows)
     x = placed(lines, stations)

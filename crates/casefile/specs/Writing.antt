@@ -1,4 +1,4 @@
--- The file c after the bytes b were written where field k lies, and whether it has that place; where it has not, it stays as it is.
+-- The file c after the bytes b were written where field k lies, and whether it has that place; where it does not, it stays as it is.
 -- Assumes nothing.
 use Prim.Native.Nat.{ℕ}
 use mathlib.Core.Bool.{Bool}

@@ -195,7 +195,7 @@ pub fn phi(case: &[u8]) -> [u8; 32]
 }
 
 // Writing what is worked out from the rest of a case. Each of these puts 32 bytes where the reader of its
-// name finds them, and answers whether the file has that place; where it has not, it stays as it is.
+// name finds them, and answers whether the file has that place; where it does not, it stays as it is.
 // Nothing calls them yet: the desk, which makes whole cases, will.
 pub fn put_nullifier(case: &mut [u8], i: Which, bytes: &[u8; 32]) -> bool
     ensures { λ r. ⌜ r ≡ hasPlace (nullifierField (numberOf i)) (now (bytes .entry)) (now (case .entry)) ⌝ }

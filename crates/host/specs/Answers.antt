@@ -12,7 +12,7 @@ use Rattle.refusals.specs.Rules.{answer}
 abbrev pub codeOf : Answer → ℕ
 codeOf a = a .number + 256 * a .place
 
--- 51: a lent buffer has not its length; place 1 the ledger's, 2 the root's, 3 the report's, 4 the tally's, 5 the pull's, 6 the digest's
+-- 51: a lent buffer is not as long as it must be; place 1 the ledger's, 2 the root's, 3 the report's, 4 the tally's, 5 the pull's, 6 the digest's
 abbrev pub wrongLength : ℕ → Answer
 wrongLength place = answer 51 place
 

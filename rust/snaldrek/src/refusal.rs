@@ -94,7 +94,7 @@ pub enum Refusal {
     /// 53.
     NoSuchRow,
     /// 255: no answer was given. No call returns it; it stands in a report for
-    /// the cases that a bag has not, and in a day list for the rows that were
+    /// the cases that a bag does not have, and in a day list for the rows that were
     /// not entered yet.
     NotGiven,
     /// 54: what was to be entered in the day list.
@@ -294,7 +294,7 @@ impl Buffer {
 /// of 1 and 3 also say what they mean where no case was judged.
 #[rustfmt::skip]
 const WORDS: [(u8, u8, &str); 40] = [
-    (1, 0, "the case has not 4,210 bytes (opening: the roll has no row)"),
+    (1, 0, "the case is not 4,210 bytes long (opening: the roll has no row)"),
     (2, 0, "the ledger is damaged"),
     (3, 0, "fewer than two nullifier rows are free (closing: no roll row is)"),
     (4, 0, "both public values are nonzero"),
@@ -324,12 +324,12 @@ const WORDS: [(u8, u8, &str); 40] = [
     (21, 0, "a limit of the gate is no finite number, or low is above high"),
     (22, 0, "the pull is no finite number"),
     (23, 0, "the pull is outside the gate"),
-    (51, 1, "the ledger's buffer has not 988 bytes"),
-    (51, 2, "the root's buffer has not 32 bytes"),
-    (51, 3, "the report's buffer has not 32 bytes"),
-    (51, 4, "the tally's buffer has not 12 bytes"),
-    (51, 5, "the pull's buffer has not 8 bytes"),
-    (51, 6, "the digest's buffer has not 32 bytes"),
+    (51, 1, "the ledger's buffer is not 988 bytes long"),
+    (51, 2, "the root's buffer is not 32 bytes long"),
+    (51, 3, "the report's buffer is not 32 bytes long"),
+    (51, 4, "the tally's buffer is not 12 bytes long"),
+    (51, 5, "the pull's buffer is not 8 bytes long"),
+    (51, 6, "the digest's buffer is not 32 bytes long"),
     (52, 0, "the tally is full: seen, or the count that would be raised, is at its most"),
     (53, 0, "the day list has no such row"),
     (54, 0, "what is to be entered in the day list is no answer"),

@@ -43,6 +43,7 @@ class Port:
         self.crates = translate.crates_of(ROOT)
         self.programs = [c for c in self.crates if os.path.exists(os.path.join(ROOT, "crates", c, "src", "main.rt"))]
         self.texts = {c: translate.sources_of(ROOT, c) for c in self.crates}
+        self.numbers = translate.numbers_of(self.texts)
         self.items = {(c, f): translate.items_of(t) for c in self.crates for f, t in self.texts[c].items()}
         self.variants = {}  # by number: the crate, and for each changed file its bodies and what is added
 
@@ -53,9 +54,10 @@ class Port:
         return number
 
     def edges_of(self, crate):
-        """The numbers that stand in a crate's code."""
+        """The numbers that stand in a crate's code, by themselves or by a name."""
         text = "\n".join(i.body for (c, _), items in self.items.items() if c == crate for i in items)
         found = {int(n.replace("_", ""), 0) for n in re.findall(r"(?<![\w.])(?:0x[0-9a-f_]+|[1-9][\d_]*)", text)}
+        found |= {n for name, n in self.numbers.items() if re.search(rf"\b{name}\b", text)}
         return sorted(n for n in found if n < 1 << 64)
 
     def bodies_of(self, crate, file):

@@ -11,6 +11,7 @@ from dataclasses import dataclass
 
 FUNCTION = re.compile(r'(\s*)(pub )?(?:extern "C" )?fn (\w+)')
 CONSTANT = re.compile(r"(?:pub )?const (\w+)\b")
+NUMBER = re.compile(r"^(?:pub )?const (\w+): \w+ = (\d+);", re.M)
 
 
 @dataclass
@@ -43,6 +44,11 @@ def sources_of(root, crate):
         with open(os.path.join(folder, file), encoding="utf-8") as f:
             found["" if file in ("lib.rt", "main.rt") else file.removesuffix(".rt")] = f.read()
     return found
+
+
+def numbers_of(texts):
+    """The numbers that have a name, in all crates."""
+    return {m[1]: int(m[2]) for files in texts.values() for text in files.values() for m in NUMBER.finditer(text)}
 
 
 def without_proofs(text):

@@ -1,4 +1,4 @@
-"""Small changes of a function's body, one at a time: a numeral, a comparison, an operand, an argument, a statement."""
+"""Small changes of a function's body, one at a time: a number, a comparison, an operand, an argument, a statement."""
 import re
 
 NUMERAL = re.compile(r"(?<!\w)(?<![^.]\.)(0x[0-9a-f_]+|\d[\d_]*)((?:u8|u16|u32|u64|usize|i64)?)(?!\w)(?!\.\d)")
@@ -21,6 +21,14 @@ def numerals(text):
                 yield m.span(), f"{other}{m[2]}"
     for m in re.finditer(r"(?<![\w.])\d+\.\d+(?!\w)", text):
         yield m.span(), str(float(m[0]) + 1)
+
+
+def named(text, numbers):
+    """A number that has a name, as another number."""
+    for m in re.finditer(r"\b[A-Z][A-Z_]+\b", text):
+        if m[0] in numbers:
+            yield m.span(), str(numbers[m[0]] + 1)
+            yield m.span(), str(numbers[m[0]] - 1)
 
 
 def operators(text):
@@ -72,10 +80,10 @@ def changed_lines(body, changed):
     return before, after, f" (the {alike.index(start) + 1}. of {len(alike)})" if len(alike) > 1 else ""
 
 
-def variants_of(body):
+def variants_of(body, numbers):
     """The changed bodies: the lines before, the lines after, which of equal lines, and the whole."""
     seen = {body}
-    for kind in (numerals, operators, words, arguments, conditions, statements):
+    for kind in (numerals, lambda text: named(text, numbers), operators, words, arguments, conditions, statements):
         for (start, end), new in kind(body):
             changed = body[:start] + new + body[end:]
             if changed not in seen:

@@ -37,18 +37,22 @@ impl Dice {
         T::draw(self)
     }
 
-    /// A number of so many bits: small, at an edge of the type or of the code, short of the last list's end, or any.
+    /// A number of so many bits: small, at an edge of the type or of the code, short of the last list's end by a
+    /// little or by an edge, or any.
     fn number(&mut self, bits: u32) -> u64 {
         let most = u64::MAX >> (64 - bits);
         let near = self.below(3).wrapping_sub(1);
-        let n = match self.below(7) {
+        let edge = match self.edges {
+            [] => 0,
+            edges => edges[self.below(edges.len() as u64) as usize],
+        };
+        let n = match self.below(8) {
             0 => self.below(5),
             1 => most - self.below(3),
             2 => (1u64 << self.below(u64::from(bits))).wrapping_add(near),
-            3 | 4 if !self.edges.is_empty() => {
-                self.edges[self.below(self.edges.len() as u64) as usize].wrapping_add(near)
-            }
+            3 | 4 if edge > 0 => edge.wrapping_add(near),
             5 => (self.length as u64).wrapping_sub(self.below(40)),
+            6 if edge > 0 => (self.length as u64).wrapping_sub(edge).wrapping_add(near),
             _ => self.bits(),
         };
         n & most

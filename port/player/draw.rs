@@ -14,11 +14,17 @@ pub struct Dice {
     before: u64,
     length: usize,
     edges: &'static [u64],
+    exact: bool,
 }
 
 impl Dice {
     pub fn new(seed: u64, edges: &'static [u64]) -> Dice {
-        Dice { state: seed, before: seed, length: 0, edges }
+        Dice { state: seed, before: seed, length: 0, edges, exact: false }
+    }
+
+    /// A die that draws 0 and the edges themselves, and no other number.
+    pub fn exact(seed: u64, edges: &'static [u64]) -> Dice {
+        Dice { exact: true, ..Dice::new(seed, edges) }
     }
 
     /// SplitMix64.
@@ -46,6 +52,9 @@ impl Dice {
             [] => 0,
             edges => edges[self.below(edges.len() as u64) as usize],
         };
+        if self.exact {
+            return [0, edge][self.below(2) as usize] & most;
+        }
         let n = match self.below(8) {
             0 => self.below(5),
             1 => most - self.below(3),

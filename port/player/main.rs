@@ -9,6 +9,7 @@ use std::panic::{catch_unwind, AssertUnwindSafe};
 use std::path::Path;
 
 const CALLS_OF_EACH: u64 = 300;
+const CALLS_AT_EDGES: u64 = 100;
 
 /// A call: the function, whether it is public, and what it was given, gave back, left and printed, if it ended.
 type Called = (&'static str, bool, Option<[Told; 4]>);
@@ -134,8 +135,9 @@ fn stored_differs(run: &Stored) -> Option<String> {
 fn all_calls(name: &str) -> impl Iterator<Item = Called> + '_ {
     MODULES.iter().filter(move |(module, ..)| *module == name).flat_map(|(_, edges, calls)| {
         calls.iter().flat_map(move |(call, public, run)| {
-            (0..CALLS_OF_EACH).map(move |seed| {
-                let ended = catch_unwind(|| io::play(|| run(&mut Dice::new(seed, edges)), &[])).ok();
+            (0..CALLS_OF_EACH + CALLS_AT_EDGES).map(move |seed| {
+                let dice = || if seed < CALLS_OF_EACH { Dice::new(seed, edges) } else { Dice::exact(seed, edges) };
+                let ended = catch_unwind(|| io::play(|| run(&mut dice()), &[])).ok();
                 let parts =
                     ended.map(|([lent, gave, left], text)| [lent, gave, left, told(&String::from_utf8_lossy(&text))]);
                 (*call, *public, parts)

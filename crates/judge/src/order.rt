@@ -82,7 +82,8 @@ pub fn is_below(a: &[u8], i: usize, b: &[u8], j: usize) -> bool
     compare_words(a, i, b, j).is_less()
 }
 
-// Whether the two rows are equal, up to the first words that differ; without a call, so that a walk has none.
+// Whether the two rows are equal, up to the first words that differ; without a call, so that a walk has none. For
+// this crate alone, as the three above.
 pub fn is_same(a: &[u8], i: usize, b: &[u8], j: usize) -> bool
     requires { ⌜ i + 32 ≤ length (now a) ⌝ }
     requires { ⌜ j + 32 ≤ length (now b) ⌝ }

@@ -309,7 +309,8 @@ fn check_witness(case: &[u8; CASE_BYTES]) -> Result<(), u32> {
         return refused(9, 3);
     }
     none_of(|i| strays(case, OLD[i]), 10)?;
-    if sum([0, OLD[0] + 64, OLD[1] + 64]) != sum([8, NEW[0] + 32, NEW[1] + 32]) {
+    let paid = sum([0, OLD[0] + 64, OLD[1] + 64]);
+    if paid != sum([8, NEW[0] + 32, NEW[1] + 32]) || paid > u128::from(u64::MAX) {
         return refused(11, 0);
     }
     none_of(|i| *field(case, 48 + 32 * i) != tagged(0b1110, key(i), field(case, OLD[i] + 72)), 12)?;

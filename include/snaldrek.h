@@ -93,7 +93,7 @@ enum snaldrek_number {
     SNALDREK_ALREADY_SPENT = 8,         /* place 1 or 2: which nullifier */
     SNALDREK_OUT_OF_RANGE = 9,          /* place 1 or 2: which old note; 3: phi */
     SNALDREK_PATH_WRONG = 10,           /* place 1 or 2: which old note */
-    SNALDREK_NOT_BALANCED = 11,         /* what goes in is not what comes out */
+    SNALDREK_NOT_BALANCED = 11,         /* what goes in is not what comes out, or is above 2^64 - 1 */
     SNALDREK_NULLIFIER_WRONG = 12,      /* place 1 or 2 */
     SNALDREK_ADDRESS_WRONG = 13,        /* place 1 or 2: which old note */
     SNALDREK_TAG_WRONG = 14,            /* place 1 or 2 */

@@ -17,7 +17,7 @@ use Rattle.refusals.proofs.SentenceLaws.{Tells, tells-equal, tells-below, tells
 use Rattle.sprout.specs.Hashes.{hasTopBits}
 use Rattle.casefile.specs.Layout.{description, oldNoteLengths, newNoteLengths, lengths, total, caseLength, proofLength}
 use Rattle.casefile.specs.Fields.{hasLength}
-use Rattle.statement.specs.CaseRefusals.{bothPublic, aboveMoney, outOfRange, endsElsewhere, balanced, differs, pathEndOf, no1, no4, no5, no7, no9, no10, no11, no12, no13, no14, no15, no16, rangeOf, straysOf, balancedOf, nullifierWrong, addressWrong, tagWrong, rhoWrong, commitmentWrong, oldCommitmentOf, hSigOf}
+use Rattle.statement.specs.CaseRefusals.{bothPublic, aboveMoney, outOfRange, endsElsewhere, unbalanced, differs, pathEndOf, no1, no4, no5, no7, no9, no10, no11, no12, no13, no14, no15, no16, rangeOf, straysOf, unbalancedOf, nullifierWrong, addressWrong, tagWrong, rhoWrong, commitmentWrong, oldCommitmentOf, hSigOf}
 use Rattle.ledger.specs.declared.Ledger.{Ledger}
 use Rattle.ledger.specs.declared.Order.{Order}
 use Rattle.ledger.specs.declared.Order.the-variants.{Less, Equal, Greater}
@@ -65,7 +65,7 @@ damage-told t r l =
 module _ (c t r : List ℕ) (l : Ledger) where
   -- A CASE: row by row of the judge's table
   rows-told : Agree (judgeRefusals c t r l) (caseSentences c t r l)
-  unfolding judgeRefusals rulesIn caseSentences no1 no2 no3 no4 no5 no6 no7 no8 no9 no10 no11 no12 no13 no14 no15 no16 hasLength caseLength proofLength lengths description oldNoteLengths newNoteLengths total bothPublic aboveMoney hasTopBits outOfRange endsElsewhere balanced differs pathEndOf rangeOf straysOf balancedOf nullifierWrong addressWrong tagWrong rhoWrong commitmentWrong oldCommitmentOf hSigOf
+  unfolding judgeRefusals rulesIn caseSentences no1 no2 no3 no4 no5 no6 no7 no8 no9 no10 no11 no12 no13 no14 no15 no16 hasLength caseLength proofLength lengths description oldNoteLengths newNoteLengths total bothPublic aboveMoney hasTopBits outOfRange endsElsewhere unbalanced differs pathEndOf rangeOf straysOf unbalancedOf nullifierWrong addressWrong tagWrong rhoWrong commitmentWrong oldCommitmentOf hSigOf
   rows-told =
       tells-not tells-equal
       & damage-told t r l
@@ -82,7 +82,7 @@ module _ (c t r : List ℕ) (l : Ledger) where
       & tells-above
       & tells-both (tells-not tells-equal) (tells-not same-bytes)
       & tells-both (tells-not tells-equal) (tells-not same-bytes)
-      & tells-not tells-equal
+      & tells-either (tells-not tells-equal) tells-below
       & tells-not same-bytes
       & tells-not same-bytes
       & tells-not same-bytes

@@ -15,7 +15,7 @@ use Rattle.octets.proofs.NumberLaws.{little-bytes}
 use Rattle.octets.proofs.PartLaws.{zeros-length}
 use Rattle.units.specs.Limits.{treeLeaves}
 use Rattle.sprout.specs.Hashes.{hasTopBits}
-use Rattle.statement.specs.CaseRefusals.{aboveMoney, outOfRange}
+use Rattle.statement.specs.CaseRefusals.{aboveMoney, outOfRange, unbalanced}
 use Rattle.ledger.specs.Ledgers.{mostNullifiers, mostAnchors, roomIn}
 use Rattle.bag.specs.Contents.{rowCount, entryOf, inOrder, laidOut}
 use Rattle.books.specs.Tally.{isFull}
@@ -62,6 +62,14 @@ limits =
     -- all money
     ∷ not (aboveMoney 2100000000000000)
     ∷ aboveMoney 2100000000000001
+    -- a side of the balance, below 2^64, whatever it is the sum of
+    ∷ not (unbalanced 0 18446744073709551615 0 0 0 18446744073709551615)
+    ∷ not (unbalanced 1 0 18446744073709551614 0 18446744073709551615 0)
+    ∷ not (unbalanced 0 18446744073709551615 0 1 0 18446744073709551614)
+    ∷ unbalanced 0 18446744073709551615 1 0 1 18446744073709551615
+    ∷ unbalanced 1 0 18446744073709551615 0 18446744073709551615 1
+    ∷ unbalanced 0 18446744073709551615 1 1 0 18446744073709551615
+    ∷ unbalanced 0 18446744073709551615 18446744073709551615 0 18446744073709551615 18446744073709551615
     -- rows of a bag: from 1 to 8
     ∷ not (laidOut (emptyBag 0))
     ∷ laidOut (emptyBag 1)
@@ -74,7 +82,7 @@ limits =
     ∷ []
 
 all-limits : every limits ≡ true
-unfolding every holds emptyRows emptyBag limits roomIn hasTopBits outOfRange aboveMoney laidOut rowCount entryOf inOrder field listed little littleBytes
+unfolding every holds emptyRows emptyBag limits roomIn hasTopBits outOfRange aboveMoney unbalanced laidOut rowCount entryOf inOrder field listed little littleBytes
 all-limits = refl
 
 -- A BAG'S BYTES, 65,536 at most: of a bag with nothing but a seal's body of n zeros, which keeps to the layout in all else, that alone decides

@@ -2,7 +2,7 @@
 -- place are given; that the first that holds is the answer is demand 1. c is the case's bytes, t the nullifier table's, r the anchor roll's, l the ledger's
 -- counts, record and pool. i is 1 or 2.
 -- Assumes nothing.
-use Prim.Native.Nat.{ℕ, _+_, _*_, _/_, _%_, _<_, _≤_}
+use Prim.Native.Nat.{ℕ, _+_, _-_, _*_, _/_, _%_, _^_, _<_, _≤_}
 use mathlib.Core.Path.{_≡_}
 use mathlib.Core.Logic.{_⊎_}
 use mathlib.Core.List.{List, [], _∷_, List·Memᴰ}
@@ -14,12 +14,12 @@ use Rattle.refusals.specs.Rules.{answer}
 use Rattle.refusals.specs.Sentences.{Sentence, refuse, OneOf}
 use Rattle.sprout.specs.Hashes.{addressFrom, nullifierFrom, macFrom, rhoFrom}
 use Rattle.tree.specs.Record.{pathEnd}
-use Rattle.casefile.specs.Fields.{vpubOldOf, vpubNewOf, anchorOf, nullifierOf, commitmentOf, tagOf, oldKeyOf, oldAddressOf, oldValueOf, oldRhoOf, oldPositionOf, oldPathOf, newValueOf, newRhoOf, phiOf}
+use Rattle.casefile.specs.Fields.{vpubOldOf, vpubNewOf, anchorOf, nullifierOf, commitmentOf, tagOf, oldKeyOf, oldAddressOf, oldValueOf, oldRhoOf, oldPositionOf, oldPathOf, newRhoOf, phiOf}
 use Rattle.ledger.specs.declared.Ledger.{Ledger}
 use Rattle.ledger.specs.declared.Order.the-variants.{Less}
 use Rattle.ledger.specs.Rows.{byteOrder}
 use Rattle.ledger.specs.Ledgers.{mostNullifiers, mostAnchors, roomIn, spentRows, anchorRows}
-use Rattle.demands.specs.Validity.{LeavesFree, oldNote, newNote, hSig}
+use Rattle.demands.specs.Validity.{LeavesFree, oldNote, newNote, valueIn, valueOut, hSig}
 
 -- DAMAGE. Rows strictly rise: each is below the next
 unfoldable pub Rises : List (List ℕ) → Type 0
@@ -63,7 +63,7 @@ caseSentences c t r l =
     ∷ refuse 9 3 (LeavesFree (phiOf c) → ⊥)
     ∷ refuse 10 1 (Strays c 1)
     ∷ refuse 10 2 (Strays c 2)
-    ∷ refuse 11 0 (vpubOldOf c + oldValueOf 1 c + oldValueOf 2 c ≡ vpubNewOf c + newValueOf 1 c + newValueOf 2 c → ⊥)
+    ∷ refuse 11 0 ((valueIn c ≡ valueOut c → ⊥) ⊎ (2 ^ 64 - 1 < valueIn c))
     ∷ refuse 12 1 (nullifierOf 1 c ≡ nullifierFrom (oldKeyOf 1 c) (oldRhoOf 1 c) → ⊥)
     ∷ refuse 12 2 (nullifierOf 2 c ≡ nullifierFrom (oldKeyOf 2 c) (oldRhoOf 2 c) → ⊥)
     ∷ refuse 13 1 (oldAddressOf 1 c ≡ addressFrom (oldKeyOf 1 c) → ⊥)

@@ -1,8 +1,7 @@
 -- When the public rules take a Sprout JoinSplit whose notes lie open, and when a ledger in memory does. The clauses of the JoinSplit statement have the names that
--- source document 003 gives them in its section 5.6. The balance is that of 003 and of document 01's refusal 11, two equal sums of any size: the
--- ceiling of 2 ^ 64 - 1 that the published rules put on them is not asked yet. i is 1 or 2; ForBoth says a clause of both.
+-- source document 003 gives them in its section 5.6. i is 1 or 2; ForBoth says a clause of both.
 -- Assumes nothing.
-use Prim.Native.Nat.{ℕ, _+_, _<_, _≤_}
+use Prim.Native.Nat.{ℕ, _+_, _-_, _^_, _<_, _≤_}
 use mathlib.Core.Path.{_≡_}
 use mathlib.Core.Bool.{false}
 use mathlib.Core.Logic.{_⊎_}
@@ -30,10 +29,17 @@ newNote i c = commitmentFrom (newAddressOf i c) (newValueOf i c) (newRhoOf i c) 
 abbrev pub hSig : List ℕ → List ℕ
 hSig c = hSigFrom (seedOf c) (nullifierOf 1 c) (nullifierOf 2 c) (transactionKeyOf c)
 
+-- what goes in and what comes out
+abbrev pub valueIn : List ℕ → ℕ
+valueIn c = vpubOldOf c + oldValueOf 1 c + oldValueOf 2 c
+
+abbrev pub valueOut : List ℕ → ℕ
+valueOut c = vpubNewOf c + newValueOf 1 c + newValueOf 2 c
+
 -- THE STATEMENT, of the description's public values and the notes behind it
 pub record Statement (c : List ℕ) : Type 0 where
   pub merkle-path-validity : ForBoth (λ i. (oldValueOf i c ≡ 0) ⊎ (pathEnd (oldNote i c) (oldPositionOf i c) (oldPathOf i c) ≡ anchorOf c))
-  pub balance : vpubOldOf c + oldValueOf 1 c + oldValueOf 2 c ≡ vpubNewOf c + newValueOf 1 c + newValueOf 2 c
+  pub balance : (valueIn c ≡ valueOut c) × (valueIn c ≤ 2 ^ 64 - 1)
   pub nullifier-integrity : ForBoth (λ i. nullifierOf i c ≡ nullifierFrom (oldKeyOf i c) (oldRhoOf i c))
   pub spend-authority : ForBoth (λ i. oldAddressOf i c ≡ addressFrom (oldKeyOf i c))
   pub non-malleability : ForBoth (λ i. tagOf i c ≡ macFrom i (oldKeyOf i c) (hSig c))

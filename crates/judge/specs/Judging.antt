@@ -27,7 +27,7 @@ judgeRefusals c t r l =
     ∷ no8 t l (nullifierOf 1 c) (nullifierOf 2 c)  -- nullifier i is in the table
     ∷ no9 c  -- key i has a top bit or position i is no leaf; place 3: phi has a top bit
     ∷ no10 c  -- old note i has a value, and its path does not end at the anchor
-    ∷ no11 c  -- what goes in is not what comes out
+    ∷ no11 c  -- what goes in is not what comes out, or is above 2 ^ 64 - 1
     ∷ no12 c  -- nullifier i is not that of key i and rho i
     ∷ no13 c  -- a_pk i is not the address of key i
     ∷ no14 c  -- tag i is wrong

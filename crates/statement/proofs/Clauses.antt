@@ -1,6 +1,6 @@
 -- A case alone is accepted exactly when each of its clauses holds: a clause for each refusal that needs no ledger, under that refusal's number.
 -- Assumes nothing.
-use Prim.Native.Nat.{ℕ, _+_, _<_, _≤_}
+use Prim.Native.Nat.{ℕ, _+_, _-_, _^_, _<_, _≤_}
 use mathlib.Core.Path.{_≡_, sym, ap, _∙_}
 use mathlib.Core.Logic.{_⊎_}
 use mathlib.Core.Bool.{not, false≢true}
@@ -17,7 +17,7 @@ use Rattle.units.specs.Pairs.{ForBoth}
 use Rattle.sprout.specs.Hashes.{hasTopBits, addressFrom, nullifierFrom, macFrom, rhoFrom, commitmentFrom}
 use Rattle.casefile.specs.Layout.{caseLength, proofLength}
 use Rattle.casefile.specs.Fields.{hasLength, vpubOldOf, vpubNewOf, anchorOf, nullifierOf, commitmentOf, tagOf, oldKeyOf, oldAddressOf, oldValueOf, oldRhoOf, oldPositionOf, newAddressOf, newValueOf, newRhoOf, newTrapdoorOf, phiOf}
-use Rattle.statement.specs.CaseRefusals.{bothPublic, aboveMoney, outOfRange, endsElsewhere, balanced, differs, pathEndOf, hSigOf, derivedRefusals, claimRefusals, no1, no4, no5, no7, no9, no10, no11, no12, no13, no14, no15, no16, rangeOf, straysOf, balancedOf, nullifierWrong, addressWrong, tagWrong, rhoWrong, commitmentWrong, witnessRefusals, caseRefusals}
+use Rattle.statement.specs.CaseRefusals.{bothPublic, aboveMoney, outOfRange, endsElsewhere, unbalanced, differs, pathEndOf, hSigOf, derivedRefusals, claimRefusals, no1, no4, no5, no7, no9, no10, no11, no12, no13, no14, no15, no16, rangeOf, straysOf, unbalancedOf, nullifierWrong, addressWrong, tagWrong, rhoWrong, commitmentWrong, witnessRefusals, caseRefusals}
 use Rattle.statement.proofs.Order.{case-numbered}
 
 pub record Clauses (c : List ℕ) : Type 0 where
@@ -36,7 +36,7 @@ pub record Clauses (c : List ℕ) : Type 0 where
   -- 10
   pub paths : ForBoth (λ i. (oldValueOf i c ≡ 0) ⊎ (pathEndOf i c ≡ anchorOf c))
   -- 11
-  pub balance : vpubOldOf c + oldValueOf 1 c + oldValueOf 2 c ≡ vpubNewOf c + newValueOf 1 c + newValueOf 2 c
+  pub balance : (vpubOldOf c + oldValueOf 1 c + oldValueOf 2 c ≡ vpubNewOf c + newValueOf 1 c + newValueOf 2 c) × (vpubOldOf c + oldValueOf 1 c + oldValueOf 2 c ≤ 2 ^ 64 - 1)
   -- 12
   pub nullifiers : ForBoth (λ i. nullifierOf i c ≡ nullifierFrom (oldKeyOf i c) (oldRhoOf i c))
   -- 13
@@ -59,7 +59,7 @@ unlike {s} {t} =
 module _ (c : List ℕ) where
   -- no row applies exactly when each clause holds
   pub none-clauses : None (caseRefusals c) → Clauses c
-  unfolding testOf rulesIn hasLength bothPublic aboveMoney hasTopBits outOfRange endsElsewhere balanced differs no1 no4 no5 no7 no9 no10 no11 no12 no13 no14 no15 no16 rangeOf straysOf balancedOf nullifierWrong addressWrong tagWrong rhoWrong commitmentWrong derivedRefusals claimRefusals witnessRefusals caseRefusals
+  unfolding testOf rulesIn hasLength bothPublic aboveMoney hasTopBits outOfRange endsElsewhere unbalanced differs no1 no4 no5 no7 no9 no10 no11 no12 no13 no14 no15 no16 rangeOf straysOf unbalancedOf nullifierWrong addressWrong tagWrong rhoWrong commitmentWrong derivedRefusals claimRefusals witnessRefusals caseRefusals
   none-clauses h =
       let no = fails (caseRefusals c) h in
       record {
@@ -71,7 +71,7 @@ module _ (c : List ℕ) where
         ranges = (both at-most below .0 (no 9 1), both at-most below .0 (no 9 2));
         phi-free = at-most .0 (no 9 3);
         paths = (either equal alike .0 (no 10 1), either equal alike .0 (no 10 2));
-        balance = equal .0 (no 11 0);
+        balance = both equal at-most .0 (no 11 0);
         nullifiers = (alike .0 (no 12 1), alike .0 (no 12 2));
         addresses = (alike .0 (no 13 1), alike .0 (no 13 2));
         tags = (alike .0 (no 14 1), alike .0 (no 14 2));
@@ -80,7 +80,7 @@ module _ (c : List ℕ) where
       }
 
   pub clauses-none : Clauses c → None (caseRefusals c)
-  unfolding None rulesIn hasLength bothPublic aboveMoney hasTopBits outOfRange endsElsewhere balanced differs no1 no4 no5 no7 no9 no10 no11 no12 no13 no14 no15 no16 rangeOf straysOf balancedOf nullifierWrong addressWrong tagWrong rhoWrong commitmentWrong derivedRefusals claimRefusals witnessRefusals caseRefusals
+  unfolding None rulesIn hasLength bothPublic aboveMoney hasTopBits outOfRange endsElsewhere unbalanced differs no1 no4 no5 no7 no9 no10 no11 no12 no13 no14 no15 no16 rangeOf straysOf unbalancedOf nullifierWrong addressWrong tagWrong rhoWrong commitmentWrong derivedRefusals claimRefusals witnessRefusals caseRefusals
   clauses-none k =
       equal .1 (k .whole)
       & either equal equal .1 (k .one-sided)
@@ -92,7 +92,7 @@ module _ (c : List ℕ) where
       & at-most .1 (k .phi-free)
       & either equal alike .1 (k .paths .0)
       & either equal alike .1 (k .paths .1)
-      & equal .1 (k .balance)
+      & both equal at-most .1 (k .balance)
       & alike .1 (k .nullifiers .0)
       & alike .1 (k .nullifiers .1)
       & alike .1 (k .addresses .0)

@@ -14,8 +14,8 @@ use Rattle.refusals.specs.Rules.{first}
 use Rattle.sha256.specs.Compression.{compressOf}
 use Rattle.sprout.specs.Hashes.{addressPrefix, nullifierPrefix, macPrefix, rhoPrefix, withPrefix, hasTopBits, prefixed, addressFrom, nullifierFrom, macFrom, rhoFrom}
 use Rattle.casefile.specs.Layout.{description, oldNoteLengths, newNoteLengths, lengths, total, offset, proofLength, partOf}
-use Rattle.casefile.specs.Fields.{vpubOldOf, vpubNewOf}
-use Rattle.statement.specs.CaseRefusals.{bothPublic, aboveMoney, outOfRange, balanced, no4, no5}
+use Rattle.casefile.specs.Fields.{vpubOldOf, vpubNewOf, oldValueOf, newValueOf}
+use Rattle.statement.specs.CaseRefusals.{bothPublic, aboveMoney, outOfRange, unbalanced, unbalancedOf, no4, no5, no11}
 
 -- each test passes
 every : List Bool → Bool
@@ -28,6 +28,11 @@ firstByte s = getD s 0 0
 -- an answer has that number and place
 answers : Answer → ℕ → ℕ → Bool
 answers a number place = eqb (a .number) number && eqb (a .place) place
+
+-- a case with these six values, each where it stands in the file, and zero in all else
+valued : ℕ → ℕ → ℕ → ℕ → ℕ → ℕ → List ℕ
+valued vpubOld old1 old2 vpubNew new1 new2 =
+    littleBytes 8 vpubOld ++ littleBytes 8 vpubNew ++ zeros 1882 ++ littleBytes 8 old1 ++ zeros 1060 ++ littleBytes 8 old2 ++ zeros 1028 ++ littleBytes 8 new1 ++ zeros 96 ++ littleBytes 8 new2 ++ zeros 96
 
 -- with any bytes behind those that an example names
 module _ (rest : List ℕ) where
@@ -64,15 +69,17 @@ module _ (rest : List ℕ) where
       -- 9 two public values are refusal 4
       ∷ answers (first (no4 (public 1 1))) 4 0
       -- 10 balanced
-      ∷ balanced 0 7000 3000 10000 0 0
+      ∷ answers (first (no11 (valued 0 7000 3000 10000 0 0))) 0 0
       -- 11 not balanced
-      ∷ not (balanced 0 (2 ^ 64 - 1) 1 0 0 0)
+      ∷ answers (first (no11 (valued 0 (2 ^ 64 - 1) 1 0 0 0))) 11 0
       -- 12 the last leaf's position is allowed
       ∷ not (outOfRange key (2 ^ 29 - 1))
+      -- 13, of request No. 1: balanced, and above what either side may come to
+      ∷ answers (first (no11 (valued 0 (2 ^ 64 - 1) 1 0 (2 ^ 64 - 1) 1))) 11 0
       ∷ []
 
   all-marked : every marked ≡ true
-  unfolding every firstByte answers public key phi marked withPrefix hasTopBits first no4 no5 bothPublic aboveMoney outOfRange balanced vpubOldOf vpubNewOf partOf offset total lengths description oldNoteLengths newNoteLengths proofLength field listed little littleBytes
+  unfolding every firstByte answers public key phi marked withPrefix hasTopBits first valued no4 no5 no11 bothPublic aboveMoney outOfRange unbalanced unbalancedOf vpubOldOf vpubNewOf oldValueOf newValueOf partOf offset total lengths description oldNoteLengths newNoteLengths proofLength field listed little littleBytes
   all-marked = refl
 
   -- 1 to 6 once more, of the hashes themselves: each compresses a block that begins so

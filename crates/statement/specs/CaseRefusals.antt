@@ -1,6 +1,6 @@
 -- Document 01's table of refusals, as far as it needs no ledger: for each number its condition, and its rows over a case's bytes. i is 1 or 2.
 -- Assumes nothing.
-use Prim.Native.Nat.{ℕ, _+_}
+use Prim.Native.Nat.{ℕ, _+_, _-_, _^_}
 use mathlib.Core.Bool.{Bool, not, _&&_, _||_}
 use mathlib.Core.List.{List, [], _∷_}
 use lib.Dec.{eqb, ltb, leb}
@@ -59,15 +59,15 @@ straysOf c i = endsElsewhere (oldValueOf i c) (pathEndOf i c) (anchorOf c)
 unfoldable pub no10 : List ℕ → List Rule
 no10 c = forEach (straysOf c) 10
 
--- 11: what goes in is not what comes out, as whole numbers
-unfoldable pub balanced : ℕ → ℕ → ℕ → ℕ → ℕ → ℕ → Bool
-balanced vpubOld old1 old2 vpubNew new1 new2 = eqb (vpubOld + old1 + old2) (vpubNew + new1 + new2)
+-- 11: what goes in is not what comes out, as whole numbers, or is above 2 ^ 64 - 1
+unfoldable pub unbalanced : ℕ → ℕ → ℕ → ℕ → ℕ → ℕ → Bool
+unbalanced vpubOld old1 old2 vpubNew new1 new2 = not (eqb (vpubOld + old1 + old2) (vpubNew + new1 + new2)) || ltb (2 ^ 64 - 1) (vpubOld + old1 + old2)
 
-unfoldable pub balancedOf : List ℕ → Bool
-balancedOf c = balanced (vpubOldOf c) (oldValueOf 1 c) (oldValueOf 2 c) (vpubNewOf c) (newValueOf 1 c) (newValueOf 2 c)
+unfoldable pub unbalancedOf : List ℕ → Bool
+unbalancedOf c = unbalanced (vpubOldOf c) (oldValueOf 1 c) (oldValueOf 2 c) (vpubNewOf c) (newValueOf 1 c) (newValueOf 2 c)
 
 unfoldable pub no11 : List ℕ → List Rule
-no11 c = rule (not (balancedOf c)) 11 0 ∷ []
+no11 c = rule (unbalancedOf c) 11 0 ∷ []
 
 -- 12 to 16: what the case claims is not what its notes and keys give
 unfoldable pub differs : List ℕ → List ℕ → Bool

@@ -8,7 +8,7 @@ ghost use Rattle.refusals.specs.Rules.{first, rulesIn};
 ghost use mathlib.Core.List.{[], _∷_};
 ghost use Rattle.casefile.specs.Fields.{anchorOf, oldValueOf};
 ghost use Rattle.statement.specs.Claims.{claimNumber, claimWrong, pairRefusals};
-ghost use Rattle.statement.specs.CaseRefusals.{no1, no4, no5, no7, no9, no10, no11, rangeOf, straysOf, balancedOf, nullifierWrong, addressWrong, tagWrong, rhoWrong, commitmentWrong, hSigOf, oldCommitmentOf, publicRefusals, witnessRefusals, claimRefusals, derivedRefusals, pathEndOf, endsElsewhere, differs as differsOf};
+ghost use Rattle.statement.specs.CaseRefusals.{no1, no4, no5, no7, no9, no10, no11, rangeOf, straysOf, unbalancedOf, nullifierWrong, addressWrong, tagWrong, rhoWrong, commitmentWrong, hSigOf, oldCommitmentOf, publicRefusals, witnessRefusals, claimRefusals, derivedRefusals, pathEndOf, endsElsewhere, differs as differsOf};
 use refusals::Answer;
 use units::Amount;
 use units::Which;
@@ -167,8 +167,9 @@ fn sum(a: Amount, b: Amount, c: Amount) -> Total
     }
 }
 
-fn is_balanced(case: &[u8]) -> bool
-    ensures { λ r. ⌜ r ≡ balancedOf (now (case .entry)) ⌝ }
+// Whether the two sides differ, or what both come to is above 2 ^ 64 - 1.
+fn unbalanced(case: &[u8]) -> bool
+    ensures { λ r. ⌜ r ≡ unbalancedOf (now (case .entry)) ⌝ }
 {
     let old1 = casefile::old_value(case, Which::First);
     let old2 = casefile::old_value(case, Which::Second);
@@ -177,18 +178,21 @@ fn is_balanced(case: &[u8]) -> bool
     let paid = sum(casefile::vpub_old(case), old1, old2);
     let made = sum(casefile::vpub_new(case), new1, new2);
     if paid.high != made.high {
-        return false;
+        return true;
     }
-    paid.low == made.low
+    if paid.low != made.low {
+        return true;
+    }
+    paid.high > 4294967295
 }
 
 fn balance(case: &[u8]) -> Answer
     ensures { λ r. ⌜ r ≡ first (no11 (now (case .entry))) ⌝ }
 {
-    if is_balanced(case) {
-        Answer::accepted()
-    } else {
+    if unbalanced(case) {
         Answer::refused(11, 0)
+    } else {
+        Answer::accepted()
     }
 }
 

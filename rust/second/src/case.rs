@@ -10,6 +10,9 @@ pub const CASE_BYTES: usize = 4_210;
 /// The most that a public value may be: 2,100,000,000,000,000.
 pub const MAX_MONEY: Amount = Amount(2_100_000_000_000_000);
 
+/// The most that either side of the balance may come to: 2^64 - 1.
+pub const MAX_SUM: u128 = 18_446_744_073_709_551_615;
+
 /// Zatoshi. Amounts are only ever added as whole numbers.
 #[derive(Clone, Copy, Debug, PartialEq, Eq, PartialOrd, Ord)]
 pub struct Amount(pub u64);

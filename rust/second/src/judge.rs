@@ -2,7 +2,7 @@
 
 use crate::answer::Answer;
 use crate::bytes::Bytes32;
-use crate::case::{Case, MAX_MONEY};
+use crate::case::{Case, MAX_MONEY, MAX_SUM};
 use crate::hashes;
 use crate::ledger::Ledger;
 use crate::tree::climb;
@@ -38,7 +38,7 @@ pub const RULES: [Rule; 25] = [
     rule(9, 3, |_, case| has_top_bits(&case.phi)),
     rule(10, 1, |_, case| path_fails(case, 0)),
     rule(10, 2, |_, case| path_fails(case, 1)),
-    rule(11, 0, |_, case| case.value_in() != case.value_out()),
+    rule(11, 0, |_, case| is_unbalanced(case)),
     rule(12, 1, |_, case| nullifier_is_wrong(case, 0)),
     rule(12, 2, |_, case| nullifier_is_wrong(case, 1)),
     rule(13, 1, |_, case| address_is_wrong(case, 0)),
@@ -96,6 +96,11 @@ fn old_note_is_misformed(case: &Case, which: usize) -> bool {
 fn path_fails(case: &Case, which: usize) -> bool {
     let note = &case.old[which];
     note.value.0 != 0 && climb(&note.commitment(), note.position, &note.path) != case.anchor
+}
+
+/// The sides have to be equal, and to stay within the ceiling.
+fn is_unbalanced(case: &Case) -> bool {
+    case.value_in() != case.value_out() || case.value_in() > MAX_SUM
 }
 
 fn nullifier_is_wrong(case: &Case, which: usize) -> bool {

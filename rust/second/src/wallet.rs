@@ -1,7 +1,7 @@
 //! Notes and the cases that spend and create them.
 
 use crate::bytes::Bytes32;
-use crate::case::{Amount, Case, NewNote, OldNote, Position};
+use crate::case::{Amount, Case, NewNote, OldNote, Position, MAX_SUM};
 use crate::hashes;
 use crate::random::Random;
 use crate::tree::{Path, FULL};
@@ -145,9 +145,10 @@ pub fn set_commitments(case: &mut Case) {
 
 /// Gives the new notes what the public and old values leave for them, and
 /// works out the commitments. False, with nothing changed, if two notes
-/// cannot hold it.
+/// cannot hold it or if it goes above what the balance may come to.
 pub fn balance(random: &mut Random, case: &mut Case) -> bool {
-    let left = case.value_in().checked_sub(case.vpub_new.whole());
+    let paid = Some(case.value_in()).filter(|paid| *paid <= MAX_SUM);
+    let left = paid.and_then(|paid| paid.checked_sub(case.vpub_new.whole()));
     let Some(shares) = left.and_then(|total| split(random, total)) else {
         return false;
     };

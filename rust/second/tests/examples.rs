@@ -1,4 +1,5 @@
-//! Document 01's printed example and its marked examples.
+//! Document 01's printed example and its marked examples, with that of request
+//! No. 1.
 
 use second::answer::Answer;
 use second::bag::{judge_bag, write_bag};
@@ -61,12 +62,12 @@ fn with_public(vpub_old: u64, vpub_new: u64) -> Case {
     }
 }
 
-fn with_values(old: [u64; 2], vpub_new: u64) -> Case {
+fn with_values(old: [u64; 2], vpub_new: u64, new: [u64; 2]) -> Case {
     let mut case = with_public(0, vpub_new);
-    case.old[0].value = Amount(old[0]);
-    case.old[1].value = Amount(old[1]);
-    case.new[0].value = Amount::ZERO;
-    case.new[1].value = Amount::ZERO;
+    for place in 0..2 {
+        case.old[place].value = Amount(old[place]);
+        case.new[place].value = Amount(new[place]);
+    }
     case
 }
 
@@ -89,6 +90,7 @@ fn the_marked_examples_hold() {
     let other = [0x77; 32];
     let max = MAX_MONEY.0;
     assert_eq!(max, 2_100_000_000_000_000);
+    let top = 18_446_744_073_709_551_615;
     let examples = [
         (1, address_block(&a_sk)[0] == 0xca),
         (2, nullifier_block(&a_sk, &other)[0] == 0xea),
@@ -101,10 +103,16 @@ fn the_marked_examples_hold() {
         (8, applies(&with_public(max + 1, 0), 5)),
         (8, applies(&with_public(0, max + 1), 5)),
         (9, applies(&with_public(1, 1), 4)),
-        (10, !applies(&with_values([7_000, 3_000], 10_000), 11)),
-        (11, applies(&with_values([u64::MAX, 1], 0), 11)),
+        (
+            10,
+            !applies(&with_values([7_000, 3_000], 10_000, [0, 0]), 11),
+        ),
+        (11, applies(&with_values([top, 1], 0, [0, 0]), 11)),
         (12, !applies(&with_position((1 << 29) - 1), 9)),
         (12, applies(&with_position(1 << 29), 9)),
+        // Request No. 1, and one less.
+        (13, applies(&with_values([top, 1], 0, [top, 1]), 11)),
+        (13, !applies(&with_values([top, 0], 0, [top, 0]), 11)),
     ];
     for (number, holds) in examples {
         assert!(holds, "example {number}");

@@ -4,9 +4,9 @@ use std::ops::Range;
 
 use second::answer::Answer;
 use second::bytes::{Bytes32, Reader};
-use second::case::Case;
+use second::case::{Case, MAX_SUM};
 use second::hashes;
-use second::judge::{first_refusal, Rule, RULES};
+use second::judge::{all_refusals, first_refusal, Rule, RULES};
 use second::ledger::{Ledger, ROW_BYTES};
 use second::maker::bends::BENDS;
 use second::maker::make_tape;
@@ -420,21 +420,85 @@ fn without_carry(amounts: [u64; 3]) -> (u64, u64) {
 fn a_tape_finds_sums_that_are_compared_in_part() {
     for seed in SEEDS {
         let judged = judged_cases(&make_tape(seed, 600).bytes);
-        let answer = Answer::new(11, 0);
-        let high = |_: &Ledger, case: &Case| parts(case.value_in()).0 != parts(case.value_out()).0;
+        let found = |differ: fn(&Case) -> bool| {
+            is_found(&judged, Answer::new(11, 0), |_, case| {
+                differ(case) || case.value_in() > MAX_SUM
+            })
+        };
         assert!(
-            is_found(&judged, answer, high),
+            found(|case| parts(case.value_in()).0 != parts(case.value_out()).0),
             "seed {seed}: the high part"
         );
-        let low = |_: &Ledger, case: &Case| parts(case.value_in()).1 != parts(case.value_out()).1;
-        assert!(is_found(&judged, answer, low), "seed {seed}: the low part");
-        let carried = |_: &Ledger, case: &Case| {
-            let paid = [case.vpub_old, case.old[0].value, case.old[1].value];
-            let made = [case.vpub_new, case.new[0].value, case.new[1].value];
-            let [paid, made] = [paid, made].map(|amounts| without_carry(amounts.map(|a| a.0)));
-            paid != made
+        assert!(
+            found(|case| parts(case.value_in()).1 != parts(case.value_out()).1),
+            "seed {seed}: the low part"
+        );
+        assert!(
+            found(|case| {
+                let [paid, made] = sides(case).map(without_carry);
+                paid != made
+            }),
+            "seed {seed}: no carry"
+        );
+    }
+}
+
+/// The summands of the two sides of the balance, the public value first.
+fn sides(case: &Case) -> [[u64; 3]; 2] {
+    let paid = [case.vpub_old, case.old[0].value, case.old[1].value];
+    let made = [case.vpub_new, case.new[0].value, case.new[1].value];
+    [paid, made].map(|amounts| amounts.map(|amount| amount.0))
+}
+
+/// Ways to be above the ceiling that are wrong, each with its name.
+const CEILINGS: [(&str, fn(&Case) -> bool); 7] = [
+    ("no ceiling", |_| false),
+    ("below, not at most", |case| case.value_in() >= MAX_SUM),
+    ("one too high", |case| case.value_in() > MAX_SUM + 1),
+    ("old values without the public one", |case| {
+        case.value_in() - case.vpub_old.whole() > MAX_SUM
+    }),
+    ("new values without the public one", |case| {
+        case.value_out() - case.vpub_new.whole() > MAX_SUM
+    }),
+    ("sums that wrap", |case| {
+        u128::from(case.value_in() as u64) > MAX_SUM
+    }),
+    ("sums of 65 bits", |case| case.value_in() >> 65 != 0),
+];
+
+#[test]
+fn a_tape_finds_wrong_ceilings_of_the_balance() {
+    for seed in SEEDS {
+        let judged = judged_cases(&make_tape(seed, 600).bytes);
+        let found = |is_above: fn(&Case) -> bool| {
+            is_found(&judged, Answer::new(11, 0), |_, case| {
+                case.value_in() != case.value_out() || is_above(case)
+            })
         };
-        assert!(is_found(&judged, answer, carried), "seed {seed}: no carry");
+        assert!(!found(|case| case.value_out() > MAX_SUM), "the right one");
+        for (name, is_above) in CEILINGS {
+            assert!(found(is_above), "seed {seed}: {name}");
+        }
+    }
+}
+
+#[test]
+fn a_tape_finds_a_ceiling_that_is_asked_too_early_or_too_late() {
+    for seed in SEEDS {
+        let judged = judged_cases(&make_tape(seed, 600).bytes);
+        let mut above = judged
+            .iter()
+            .filter(|(_, case)| case.value_in() == case.value_out() && case.value_in() > MAX_SUM)
+            .map(|(ledger, case)| all_refusals(ledger, case));
+        assert!(
+            above.clone().any(|refusals| refusals[0].number == 10),
+            "seed {seed}: 10 comes before it"
+        );
+        assert!(
+            above.any(|refusals| refusals[0].number == 11 && refusals.len() > 1),
+            "seed {seed}: it comes before what is asked later"
+        );
     }
 }
 

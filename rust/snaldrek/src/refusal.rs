@@ -309,7 +309,7 @@ const WORDS: [(u8, u8, &str); 40] = [
     (9, 3, "phi has more than 252 bits"),
     (10, 1, "old note 1 has a value, and its path does not lead to the anchor"),
     (10, 2, "old note 2 has a value, and its path does not lead to the anchor"),
-    (11, 0, "what goes in and what comes out do not balance"),
+    (11, 0, "what goes in and what comes out differ, or are above 2^64 - 1"),
     (12, 1, "the first nullifier is not that of old note 1"),
     (12, 2, "the second nullifier is not that of old note 2"),
     (13, 1, "old note 1's address is not that of its key"),

@@ -1,6 +1,5 @@
-use mathlib.Core.Path.{sym, ap, _∙_}
-use mathlib.Core.Bool.{not}
-use Rattle.statement.specs.CaseRefusals.{balancedOf, no11}
+use mathlib.Core.Path.{sym, _∙_}
+use Rattle.statement.specs.CaseRefusals.{unbalancedOf, no11}
 use Rattle.refusals.proofs.RuleLaws.{one-holds, one-fails}
 use borrow.Author.Needs.{needs}
 use Rattle.statement.proofs.balance.Statement.{statement}
@@ -10,13 +9,13 @@ returns : tie.Need-returns
 unfolding no11
 returns c =
     let w = c .before .before in
-    c .accepted .ensures ∙ one-fails (not (balancedOf (w .before .before .args .case .now))) 11 0 (ap not (sym (w .is-balanced .ensures) ∙ c .before .if1 .taken))
+    c .refused .ensures ∙ one-holds (unbalancedOf (w .before .before .args .case .now)) 11 0 (sym (w .unbalanced .ensures) ∙ c .before .if1 .taken)
 
 returns-2 : tie.Need-returns-2
 unfolding no11
 returns-2 c =
     let w = c .before .before in
-    c .refused .ensures ∙ one-holds (not (balancedOf (w .before .before .args .case .now))) 11 0 (ap not (sym (w .is-balanced .ensures) ∙ c .before .if1 .left))
+    c .accepted .ensures ∙ one-fails (unbalancedOf (w .before .before .args .case .now)) 11 0 (sym (w .unbalanced .ensures) ∙ c .before .if1 .left)
 
 pub balance-spec : {M : Type 1} → statement M
 balance-spec =

@@ -6,7 +6,7 @@
 
 use crate::answer::Answer;
 use crate::bytes::Bytes32;
-use crate::case::{Amount, Case, OldNote, Position, CASE_BYTES, MAX_MONEY};
+use crate::case::{Amount, Case, OldNote, Position, CASE_BYTES, MAX_MONEY, MAX_SUM};
 use crate::hashes;
 use crate::random::Random;
 use crate::sha256::sha256;
@@ -16,7 +16,7 @@ use crate::wallet::{
 };
 
 use super::edges::EDGES;
-use super::purse::{Held, Purse};
+use super::purse::{sum_of, Held, Purse};
 
 /// What a bend works with.
 pub struct Bench<'a> {
@@ -98,7 +98,6 @@ const PLAIN: &[Bend] = &[
     bend(0, 0, "idle note 2 at the last leaf", |b, c| {
         idle_at_last_leaf(b, c, 1)
     }),
-    bend(0, 0, "both sides above 64 bits", sum_above_64_bits),
     bend(4, 0, "both public values, balanced", both_public),
     bend(4, 0, "both public values, one off the scale", |_, mut c| {
         c.vpub_old = Amount(u64::MAX);
@@ -224,8 +223,10 @@ const PLAIN: &[Bend] = &[
         new_total(b, c, total + (1 << 64))
     }),
     bend(11, 0, "new values 2^64 too low", |b, c| {
-        let total = c.value_in().checked_sub(c.vpub_new.whole())?;
-        new_total(b, c, total.checked_sub(1 << 64)?)
+        above_64_bits(b, c, 1 << 64)
+    }),
+    bend(11, 0, "both sides above 64 bits", |b, c| {
+        above_64_bits(b, c, 0)
     }),
     bend(12, 1, "rho of idle note 1 one bit off", |b, c| {
         idle_rho(b, c, 0)
@@ -378,11 +379,6 @@ fn idle_elsewhere(b: &mut Bench, mut case: Case, which: usize) -> Option<Case> {
 fn idle_at_last_leaf(_: &mut Bench, mut case: Case, which: usize) -> Option<Case> {
     idle(&mut case, which)?.position = Position(FULL - 1);
     Some(case)
-}
-
-/// Only equality is asked of the sides, not that they fit into 64 bits.
-fn sum_above_64_bits(_: &mut Bench, case: Case) -> Option<Case> {
-    (case.value_in() > u128::from(u64::MAX)).then_some(case)
 }
 
 // Public values.
@@ -583,6 +579,20 @@ fn public_value_off(_: &mut Bench, mut case: Case) -> Option<Case> {
     };
     *public = Amount(public.0.checked_add(1)?);
     (*public <= MAX_MONEY).then_some(case)
+}
+
+/// Two real notes of more than 64 bits together, and new ones of as much
+/// less this.
+fn above_64_bits(b: &mut Bench, mut case: Case, less: u128) -> Option<Case> {
+    let anchor = b.purse.anchor_of(&case)?;
+    let covered = b.purse.covered(b.random, anchor);
+    let pair = covered.windows(2).find(|pair| sum_of(pair) > MAX_SUM)?;
+    for (place, held) in pair.iter().enumerate() {
+        case.old[place] = b.purse.old_note(b.random, held, anchor);
+    }
+    set_nullifiers(&mut case);
+    let total = case.value_in() - case.vpub_new.whole();
+    new_total(b, case, total.checked_sub(less)?)
 }
 
 /// New notes with this sum.

@@ -1,11 +1,12 @@
 //! Runs that a wrong judge just misses: openings on bytes that are not zero,
-//! rows that differ in one byte, sums that agree in half of their bits. Every
+//! rows that differ in one byte, sums that agree in half of their bits, sums at
+//! and above what the balance may come to. Every
 //! long tape has them all, beside the entries that it was asked for; only
 //! bytes that do not matter are drawn.
 
 use crate::answer::Answer;
 use crate::bytes::Bytes32;
-use crate::case::{Amount, Case, Position};
+use crate::case::{Amount, Case, Position, MAX_MONEY};
 use crate::ledger::{Ledger, ROW_BYTES};
 use crate::random::Random;
 use crate::tree::{path_of_leaf, root_of_leaves, Record, Tree, DEPTH};
@@ -22,6 +23,8 @@ pub(super) fn near_misses(maker: &mut Maker) {
     rows_apart_in_one_byte(maker);
     rows_around_nullifiers(maker);
     sums_near_a_half(maker);
+    sums_near_the_ceiling(maker);
+    ceiling_in_its_place(maker);
 }
 
 /// Openings on bytes of 255. One that clears or writes more than the roll's
@@ -197,6 +200,81 @@ fn sums_near_a_half(maker: &mut Maker) {
         maker.look_at_ledger();
         maker.leave_ledger();
     }
+}
+
+/// 2^64 - 1: the most that either side may come to.
+const CEILING: u64 = u64::MAX;
+
+/// All money: the most that a public value may be.
+const MOST: u64 = MAX_MONEY.0;
+
+/// Both sides come to exactly 2^64 - 1: by one old note, by two, and by a public
+/// value of 1 or of all money that goes in or comes out.
+const AT_THE_CEILING: [Values; 6] = [
+    values(0, [CEILING, 0], 0),
+    values(0, [1, CEILING - 1], 0),
+    values(1, [CEILING - 1, 0], 0),
+    values(MOST, [0, CEILING - MOST], 0),
+    values(0, [CEILING, 0], 1),
+    values(0, [0, CEILING], MOST),
+];
+
+/// Both come to 2^64, in the same ways, so that the notes of a side with a
+/// public value stay within 2^64 - 1; and then far above.
+const ABOVE_THE_CEILING: [Values; 9] = [
+    values(0, [CEILING, 1], 0),
+    values(0, [1 << 63, 1 << 63], 0),
+    values(1, [CEILING, 0], 0),
+    values(MOST, [0, CEILING - MOST + 1], 0),
+    values(0, [1, CEILING], 1),
+    values(0, [CEILING, 1], MOST),
+    values(0, [CEILING, CEILING], 0),
+    values(MOST, [CEILING, CEILING - MOST], 0),
+    values(0, [CEILING, CEILING], MOST),
+];
+
+/// Sums at the ceiling, and sums above it. In these the first new note has as much
+/// as a note can have: for old values of 2^64 - 1 and 1 the new ones are the same.
+fn sums_near_the_ceiling(maker: &mut Maker) {
+    for values in AT_THE_CEILING {
+        maker.name("sums-at-the-ceiling");
+        let case = balanced_case(&mut maker.random, &values);
+        plant_anchor(maker, &case.anchor);
+        maker.judge(&case, Answer::PASSED, "sums at the ceiling");
+        maker.look_at_ledger();
+        maker.leave_ledger();
+    }
+    for values in ABOVE_THE_CEILING {
+        maker.name("sums-above-the-ceiling");
+        let mut case = balanced_case(&mut maker.random, &values);
+        let total = case.value_in() - case.vpub_new.whole();
+        set_new_values(&mut case, heaped(total));
+        plant_anchor(maker, &case.anchor);
+        maker.judge(&case, Answer::new(11, 0), "sums above the ceiling");
+        maker.look_at_ledger();
+        maker.leave_ledger();
+    }
+}
+
+/// A sum above the ceiling with another thing wrong: a path, which is asked
+/// before, or a nullifier, which is asked after.
+fn ceiling_in_its_place(maker: &mut Maker) {
+    maker.name("ceiling-after-10-before-12");
+    let case = balanced_case(&mut maker.random, &ABOVE_THE_CEILING[0]);
+    plant_anchor(maker, &case.anchor);
+    let mut strayed = case.clone();
+    maker.random.flip_bit(&mut strayed.old[0].path[0]);
+    maker.judge(&strayed, Answer::new(10, 1), "above the ceiling, 10 too");
+    let mut misnamed = case;
+    maker.random.flip_bit(&mut misnamed.nullifiers[0]);
+    maker.judge(&misnamed, Answer::new(11, 0), "above the ceiling, 12 too");
+    maker.leave_ledger();
+}
+
+/// Two amounts of this sum, the first as high as can be.
+fn heaped(total: u128) -> [Amount; 2] {
+    let first = total.min(u128::from(CEILING));
+    [first, total - first].map(|share| Amount(share as u64))
 }
 
 /// Two amounts of this sum, as equal as can be.

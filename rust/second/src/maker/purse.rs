@@ -2,7 +2,7 @@
 //! they can be spent.
 
 use crate::bytes::Bytes32;
-use crate::case::{Amount, Case, OldNote, Position, MAX_MONEY};
+use crate::case::{Amount, Case, OldNote, Position, MAX_MONEY, MAX_SUM};
 use crate::hashes;
 use crate::random::Random;
 use crate::tree::{empty_root, path_of_leaf, root_of_leaves, Node, DEPTH};
@@ -248,16 +248,26 @@ impl Purse {
         write_case(random, plan)
     }
 
-    /// Two old notes in a random order: as many real ones as the dice say,
-    /// and notes that were never entered for the rest.
-    fn choose_old(&self, random: &mut Random, anchor: Anchor) -> [OldNote; 2] {
+    /// The notes that can be spent at this anchor, in a random order.
+    pub fn covered(&self, random: &mut Random, anchor: Anchor) -> Vec<&Held> {
         let mut covered: Vec<&Held> = self
             .unspent
             .iter()
             .filter(|held| held.place.is_some_and(|place| place < anchor.covers))
             .collect();
         random.shuffle(&mut covered);
+        covered
+    }
+
+    /// Two old notes in a random order: as many real ones as the dice say
+    /// and the balance may come to, and notes that were never entered for
+    /// the rest.
+    fn choose_old(&self, random: &mut Random, anchor: Anchor) -> [OldNote; 2] {
+        let mut covered = self.covered(random, anchor);
         covered.truncate(random.below(3));
+        if sum_of(&covered) > MAX_SUM {
+            covered.truncate(1);
+        }
         let mut old: Vec<OldNote> = covered
             .into_iter()
             .map(|held| self.old_note(random, held, anchor))
@@ -279,10 +289,14 @@ impl Purse {
     }
 }
 
+/// What these notes come to.
+pub fn sum_of(notes: &[&Held]) -> u128 {
+    notes.iter().map(|held| held.note.value.whole()).sum()
+}
+
 /// Public values, one of them zero, for old notes of this value.
 fn choose_public(random: &mut Random, in_notes: u128) -> (Amount, Amount) {
-    let top = 2 * u128::from(u64::MAX);
-    let most_in = MAX_MONEY.whole().min(top - in_notes);
+    let most_in = MAX_MONEY.whole().min(MAX_SUM - in_notes);
     let most_out = MAX_MONEY.whole().min(in_notes);
     match random.below(3) {
         0 => (Amount::ZERO, choose_amount(random, most_out)),

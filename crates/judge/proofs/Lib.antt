@@ -2,3 +2,4 @@ pub mod Bare
 pub mod Halves
 pub mod Outcomes
 pub mod Readiness
+pub mod Spans

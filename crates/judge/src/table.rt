@@ -9,7 +9,7 @@ use ledger::Order;
 use units::Row;
 ghost use mathlib.Core.Path.{_≡_};
 ghost use mathlib.Core.Bool.{true};
-ghost use Prim.Native.Nat.{_+_, _*_, _≤_};
+ghost use Prim.Native.Nat.{_+_, _-_, _*_, _/_, _≤_};
 ghost use lib.ListN.{length};
 ghost use Rattle.octets.specs.Rows.{rowsOf};
 ghost use Rattle.ledger.specs.Sorted.{placeOf, isGap, rising, find};
@@ -33,29 +33,40 @@ pub fn is_rising(table: &[u8], count: usize) -> bool
     true
 }
 
-// Where a row stands among the first count, or the gap for it. For this crate alone, which asks it of a
-// table that rises.
+// The row half way between two.
+fn middle(low: Row, high: Row) -> Row
+    requires { ⌜ low .0 ≤ high .0 ⌝ }
+    ensures { λ r. ⌜ r .0 ≡ low .0 + (high .0 - low .0) / 2 ⌝ }
+{
+    Row::of(low.index() + (high.index() - low.index()) / 2)
+}
+
+// Where a row stands among the first count, or the gap for it. The row is above all rows before low and below
+// high and all after it, and each comparison leaves at most half of those between. For this crate alone, which
+// asks it of a table that rises.
 pub fn search(table: &[u8], count: usize, row: &[u8; 32]) -> Found
     requires { ⌜ count * 32 ≤ length (now table) ⌝ }
     requires { ⌜ rising byteOrder (rowsOf count (now table)) ≡ true ⌝ }
     ensures { λ r. ⌜ r ≡ find byteOrder (now (row .entry)) (rowsOf count (now (table .entry))) ⌝ }
 {
-    let mut i = Row::of(0);
-    while i.is_within(count) {
-        let o = compare(row, 0, table, start_of(i));
+    let mut low = Row::of(0);
+    let mut high = Row::of(count);
+    while low.is_within(high.index()) {
+        let mid = middle(low, high);
+        let o = compare(row, 0, table, start_of(mid));
         match o {
             Order::Less => {
-                return Found::Gap(i);
+                high = mid;
             }
             Order::Equal => {
-                return Found::At(i);
+                return Found::At(mid);
             }
             Order::Greater => {
-                i = i.next();
+                low = mid.next();
             }
         }
     }
-    Found::Gap(i)
+    Found::Gap(low)
 }
 
 // The row that a search answers, whichever way it does.

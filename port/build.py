@@ -23,7 +23,14 @@ name = "port"
 version = "0.1.0"
 edition = "2021"
 [dependencies]
-second = { path = "%s" }
+second = { path = "%s", optional = true }
+[[bin]]
+name = "port"
+path = "src/main.rs"
+required-features = ["second"]
+[[bin]]
+name = "search"
+path = "src/search.rs"
 [profile.release]
 overflow-checks = true
 opt-level = 1
@@ -144,7 +151,7 @@ def put(path, text):
 
 def errors_of(command, owners):
     """The variants whose lines do not compile, and all other errors."""
-    command = ["cargo", command, "--release", "--offline", "--quiet", "--message-format=json"]
+    command = ["cargo", command, "--release", "--offline", "--quiet", "--features=second", "--message-format=json"]
     run = subprocess.run(command, cwd=FOLDER, capture_output=True, text=True)
     wrong, others = set(), []
     for line in run.stdout.split("\n"):

@@ -11,6 +11,7 @@ from dataclasses import dataclass
 
 FUNCTION = re.compile(r'(\s*)(pub )?(?:extern "C" )?fn (\w+)')
 CONSTANT = re.compile(r"(?:pub )?const (\w+)\b")
+COUNTED = {("judge", "compare")}  # functions whose calls are counted, each by its crate
 NUMBER = re.compile(r"^(?:pub )?const (\w+): \w+ = (\d+);", re.M)
 
 
@@ -199,6 +200,8 @@ def rust_of(crate, modules, items, variants, added):
         if not item.is_function:
             continue
         bodies = variants.get(item.name, {})
+        if (crate, item.name) in COUNTED:
+            put("crate::count();")
         put("match crate::variant() {")
         for number, body in bodies.items():
             put(f"{number} => {{\n{plain(crate, modules, body)}\n}}", number)

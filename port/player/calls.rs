@@ -8,7 +8,7 @@ use second::seal::{judge_seal, Calibration, Seal};
 use second::sha256::sha256;
 use second::tape::{plant_body, read_plant};
 
-use crate::host;
+use port::host;
 
 /// The calls.
 pub struct Calls {

@@ -4,15 +4,15 @@
 use std::cell::{Cell, RefCell};
 use std::fmt::{self, Write};
 
-pub mod calls;
 pub mod draw;
-pub mod host_run;
+pub mod search_run;
 pub use draw::{Dice, Draw};
 include!("modules.rs");
 
 thread_local! {
     static VARIANT: Cell<u32> = const { Cell::new(0) };
     static TURNS: Cell<u32> = const { Cell::new(0) };
+    static COUNTED: Cell<u32> = const { Cell::new(0) };
 }
 
 /// The number of the variant that is played; 0 is the code as it is.
@@ -32,6 +32,17 @@ pub fn turn() -> bool {
     TURNS.set(TURNS.get() + 1);
     assert!(TURNS.get() < 20_000_000, "it does not end");
     true
+}
+
+/// Counts a call of a function that translate.py has among those to be counted.
+#[inline(always)]
+pub fn count() {
+    COUNTED.set(COUNTED.get() + 1);
+}
+
+/// How often such functions were called since this was asked last.
+pub fn counted() -> u32 {
+    COUNTED.take()
 }
 
 /// A call with drawn arguments: the function's name, whether it is public, and the call, which tells what was

@@ -1,8 +1,12 @@
 //! Plays variants. Each line of standard input names one, as `NUMBER CRATE`; each is answered by a line that says
 //! what tells it from the code as it is: the first line of a run that differs, or a call, or nothing.
-use port::calls::{PORT, SECOND};
+mod calls;
+mod host_run;
+
+use calls::{PORT, SECOND};
+use host_run::{Run, Script};
 use port::draw::STORED;
-use port::host_run::{Run, Script};
+use port::search_run::most_comparisons;
 use port::{choose, io, told, Dice, Told, MODULES, PROGRAMS};
 use std::collections::HashMap;
 use std::panic::{catch_unwind, AssertUnwindSafe};
@@ -10,6 +14,8 @@ use std::path::Path;
 
 const CALLS_OF_EACH: u64 = 300;
 const CALLS_AT_EDGES: u64 = 100;
+/// The lengths of the tables that each variant searches.
+const SEARCHED: [usize; 12] = [0, 1, 2, 3, 4, 5, 6, 7, 8, 33, 2_046, 2_047];
 
 /// A call: the function, whether it is public, and what it was given, gave back, left and printed, if it ended.
 type Called = (&'static str, bool, Option<[Told; 4]>);
@@ -76,7 +82,7 @@ impl Right {
             stored_differs(run)
         });
         choose(number);
-        stored.or_else(|| self.host_differs()).or_else(|| self.call_differs(number, name))
+        stored.or_else(|| self.host_differs()).or_else(search_differs).or_else(|| self.call_differs(number, name))
     }
 
     fn host_differs(&self) -> Option<String> {
@@ -117,6 +123,11 @@ impl Right {
         }
         private
     }
+}
+
+/// The first search, of some tables, that goes wrong or takes too many comparisons.
+fn search_differs() -> Option<String> {
+    SEARCHED.into_iter().find_map(|rows| most_comparisons(rows).err())
 }
 
 /// The first line of a stored run that a variant prints otherwise.

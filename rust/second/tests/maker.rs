@@ -1,5 +1,6 @@
 //! What the tape maker promises of its tapes.
 
+use std::cmp::Ordering;
 use std::ops::Range;
 
 use second::answer::Answer;
@@ -500,6 +501,200 @@ fn a_tape_finds_a_ceiling_that_is_asked_too_early_or_too_late() {
             "seed {seed}: it comes before what is asked later"
         );
     }
+}
+
+/// Where a row stands, or else the gap for it: what `binary_search` gives.
+type Place = Result<usize, usize>;
+
+/// How a search by halves goes on: the rows that are left at first, and those
+/// left of them where the row is below the middle one or above it.
+struct Halving {
+    first: fn(usize) -> Range<usize>,
+    below: fn(Range<usize>, usize) -> Range<usize>,
+    above: fn(Range<usize>, usize) -> Range<usize>,
+}
+
+const RIGHT: Halving = Halving {
+    first: |rows| 0..rows,
+    below: |left, middle| left.start..middle,
+    above: |left, middle| middle + 1..left.end,
+};
+
+impl Halving {
+    /// Searches rows as they are seen; by then a right search has long ended.
+    fn search<T: Ord>(&self, rows: &[T], row: &T) -> Place {
+        let mut left = (self.first)(rows.len());
+        for _ in 0..64 {
+            if left.is_empty() {
+                break;
+            }
+            let middle = left.start + left.len() / 2;
+            left = match row.cmp(&rows[middle]) {
+                Ordering::Equal => return Ok(middle),
+                Ordering::Less => (self.below)(left, middle),
+                Ordering::Greater => (self.above)(left, middle),
+            };
+        }
+        Err(left.start)
+    }
+}
+
+/// Searches by halves that are wrong, each with its name.
+const WRONG_HALVINGS: [(&str, Halving); 6] = [
+    (
+        "never looks at the last row",
+        Halving {
+            first: |rows| 0..rows.saturating_sub(1),
+            ..RIGHT
+        },
+    ),
+    (
+        "never looks at the first row",
+        Halving {
+            first: |rows| 1.min(rows)..rows,
+            ..RIGHT
+        },
+    ),
+    (
+        "leaves out the row below the middle",
+        Halving {
+            below: |left, middle| left.start..middle.max(left.start + 1) - 1,
+            ..RIGHT
+        },
+    ),
+    (
+        "leaves out the row above the middle",
+        Halving {
+            above: |left, middle| (middle + 2).min(left.end)..left.end,
+            ..RIGHT
+        },
+    ),
+    (
+        "keeps the middle when it is below",
+        Halving {
+            below: |left, middle| left.start..middle + 1,
+            ..RIGHT
+        },
+    ),
+    (
+        "keeps the middle when it is above",
+        Halving {
+            above: |left, middle| middle..left.end,
+            ..RIGHT
+        },
+    ),
+];
+
+/// A case whose nullifiers are looked for: the rows, the nullifiers, and whether
+/// they are then entered.
+struct Searched {
+    rows: Vec<Bytes32>,
+    nullifiers: [Bytes32; 2],
+    is_entered: bool,
+}
+
+/// The cases of a tape that no refusal before 8 applies to.
+fn searched_cases(tape: &[u8]) -> Vec<Searched> {
+    let mut searched = Vec::new();
+    for (ledger, case) in judged_cases(tape) {
+        let answer = first_refusal(&ledger, &case);
+        if answer.is_none_or(|answer| answer.number >= 8) {
+            searched.push(Searched {
+                rows: ledger.spent_rows(),
+                nullifiers: case.nullifiers,
+                is_entered: answer.is_none(),
+            });
+        }
+    }
+    searched
+}
+
+impl Searched {
+    /// Whether a judge with another search answers otherwise, or puts a
+    /// nullifier elsewhere.
+    fn tells(&self, search: &impl Fn(&[Bytes32], &Bytes32) -> Place) -> bool {
+        let [first, second] = &self.nullifiers;
+        let asks = |nullifier: &Bytes32| {
+            let is_spent = self.rows.contains(nullifier);
+            (is_spent, search(&self.rows, nullifier).is_ok() != is_spent)
+        };
+        let (is_spent, differs) = asks(first);
+        if differs || !is_spent && asks(second).1 {
+            return true;
+        }
+        let mut rows = self.rows.clone();
+        self.is_entered
+            && [first, second].into_iter().any(|nullifier| {
+                let gap = rows.partition_point(|row| row < nullifier);
+                let differs = search(&rows, nullifier) != Err(gap);
+                rows.insert(gap, *nullifier);
+                differs
+            })
+    }
+}
+
+#[test]
+fn a_long_tape_finds_searches_that_go_wrong() {
+    for seed in SEEDS {
+        let searched = searched_cases(&make_tape(seed, 700).bytes);
+        let found = |halving: &Halving| {
+            let search = |rows: &[Bytes32], row: &Bytes32| halving.search(rows, row);
+            searched.iter().any(|case| case.tells(&search))
+        };
+        assert!(!found(&RIGHT), "seed {seed}: the right one");
+        for (name, halving) in WRONG_HALVINGS {
+            assert!(found(&halving), "seed {seed}: one that {name}");
+        }
+    }
+}
+
+#[test]
+fn a_long_tape_finds_gaps_that_are_one_off_at_either_end() {
+    for seed in SEEDS {
+        let searched = searched_cases(&make_tape(seed, 700).bytes);
+        let found = |moved: fn(usize, usize) -> usize| {
+            let search = |rows: &[Bytes32], row: &Bytes32| {
+                rows.binary_search(row)
+                    .map_err(|gap| moved(gap, rows.len()))
+            };
+            searched.iter().any(|case| case.tells(&search))
+        };
+        assert!(!found(|gap, _| gap), "seed {seed}: as they are");
+        assert!(
+            found(|gap, rows| gap.max(1).min(rows)),
+            "seed {seed}: below"
+        );
+        assert!(
+            found(|gap, rows| gap.min(rows.max(1) - 1)),
+            "seed {seed}: above"
+        );
+    }
+}
+
+#[test]
+fn a_long_tape_finds_searches_by_another_order() {
+    for seed in SEEDS {
+        let searched = searched_cases(&make_tape(seed, 700).bytes);
+        for byte in 0..ROW_BYTES {
+            let without = |row: &Bytes32| [&row[..byte], &row[byte + 1..]].concat();
+            assert!(finds_order(&searched, without), "{seed}: without {byte}");
+            let signed = |row: &Bytes32| {
+                let mut row = *row;
+                row[byte] ^= 0x80;
+                row
+            };
+            assert!(finds_order(&searched, signed), "{seed}: {byte} signed");
+        }
+    }
+}
+
+/// Whether a right search by another order is found.
+fn finds_order<T: Ord>(searched: &[Searched], seen: impl Fn(&Bytes32) -> T) -> bool {
+    let search = |rows: &[Bytes32], row: &Bytes32| {
+        let rows: Vec<T> = rows.iter().map(&seen).collect();
+        RIGHT.search(&rows, &seen(row))
+    };
+    searched.iter().any(|case| case.tells(&search))
 }
 
 #[test]

@@ -101,7 +101,7 @@ fn middle_pair(maker: &mut Maker) {
 }
 
 /// Plants a ledger with these rows and room for two more cases.
-fn plant_rows(maker: &mut Maker, rows: &[Bytes32], is_damaged: bool) {
+pub(super) fn plant_rows(maker: &mut Maker, rows: &[Bytes32], is_damaged: bool) {
     let table = ragged_length(&mut maker.random, rows.len() + 4);
     let ledger = ledger_from_elsewhere(maker, rows, table, 2);
     assert_eq!(ledger.is_damaged(), is_damaged, "rows that were made so");

@@ -12,6 +12,7 @@ mod misses;
 pub mod purse;
 mod scenes;
 mod seals;
+mod searches;
 pub mod tampers;
 
 use std::collections::HashMap;

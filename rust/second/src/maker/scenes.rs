@@ -15,6 +15,7 @@ use super::bends::{bend_named, BENDS};
 use super::misses::near_misses;
 use super::purse::Purse;
 use super::seals::KINDS;
+use super::searches::searches;
 use super::tampers::{fill_spare_bytes, fill_unused_nodes, most_pool, TAMPERS};
 use super::{Made, Maker};
 
@@ -112,6 +113,9 @@ impl Maker {
             self.is_beside = true;
             beyond_the_limits(self);
             near_misses(self);
+        }
+        if self.wanted > LONG_TAPE {
+            searches(self);
         }
     }
 

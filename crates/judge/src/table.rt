@@ -41,8 +41,8 @@ fn middle(low: Row, high: Row) -> Row
     Row::of(low.index() + (high.index() - low.index()) / 2)
 }
 
-// Where a row stands among the first count, or the gap for it. The row is above all rows before low and below
-// high and all after it, and each comparison leaves at most half of those between. For this crate alone, which
+// Where a row stands among the first count, or the gap for it. It is above all rows before low, and below row
+// high and all after it; each comparison leaves at most half of the rows between. For this crate alone, which
 // asks it of a table that rises.
 pub fn search(table: &[u8], count: usize, row: &[u8; 32]) -> Found
     requires { ⌜ count * 32 ≤ length (now table) ⌝ }

@@ -3,6 +3,8 @@
 // accepted case the ledger is put back, outside what is measured.
 //   judge check TAPE         all three give the same answers and leave the same ledgers; prints the answers
 //   judge mark SIDE TAPE     each case once; a mark before and after each call, for count.c
+//   judge accepted SIDE TAPE the same for the cases that are accepted; prints how many these are, and where in
+//                            memory `by_proved` stands
 //   judge time ROUNDS TAPE   nanoseconds: lines of round, side, and then each case's
 // SIDE is proved, plain, second or nothing.
 #![allow(unexpected_cfgs)]
@@ -194,6 +196,16 @@ fn mark_all(scenes: &[(Ledgers, Vec<&[u8]>)], name: &str) {
     });
 }
 
+// The ledgers with those of their cases that are accepted.
+fn accepted<'a>(scenes: &[(Ledgers, Vec<&'a [u8]>)]) -> Vec<(Ledgers, Vec<&'a [u8]>)> {
+    let is_accepted = |planted: &Ledgers, file: &[u8]| by_plain(&mut planted.clone(), file) == 0;
+    let of_one = |(planted, files): &(Ledgers, Vec<&'a [u8]>)| {
+        let files = files.iter().copied().filter(|file| is_accepted(planted, file));
+        (planted.clone(), files.collect())
+    };
+    scenes.iter().map(of_one).collect()
+}
+
 fn time_all(scenes: &[(Ledgers, Vec<&[u8]>)], rounds: usize) {
     let mut out = std::io::BufWriter::new(std::io::stdout().lock());
     // Round 0 warms up and is not told. Each round starts with another side.
@@ -220,6 +232,12 @@ fn main() {
     match words[0].as_str() {
         "check" => check(&scenes),
         "mark" => mark_all(&scenes, &words[1]),
+        "accepted" => {
+            let scenes = accepted(&scenes);
+            let cases: usize = scenes.iter().map(|(_, files)| files.len()).sum();
+            println!("{cases} {:x}", by_proved as *const () as usize);
+            mark_all(&scenes, &words[1]);
+        }
         "time" => time_all(&scenes, words[1].parse().expect("a number of rounds")),
         other => panic!("there is no {other}"),
     }

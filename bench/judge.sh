@@ -70,7 +70,14 @@ measure() { # FILL CASES
         "$out/judge-plain" time "$rounds" "$out/tape" >>"$out/costs.$1"
         "$out/judge-words" time "$rounds" "$out/tape" | sed -n 's/^\([0-9]*\) plain /\1 words /p' >>"$out/costs.$1"
     fi
+    [ -z "$qemu" ] || count_blocks "$1"
     rm -f "$out/tape"
+}
+
+# Counted: what ran in the proved judge's calls of accepted cases, block by block.
+count_blocks() { # FILL
+    "$qemu" ${EXACT:+-singlestep} -plugin "$out/count.so,out=$out/total,blocks=$out/blocks.$1" \
+        "$out/judge-plain" accepted proved "$out/tape" >"$out/accepted.$1"
 }
 
 # Estimated: the cycles that llvm-mca gives for the blocks that ran, for some processors.
@@ -113,4 +120,8 @@ fi
 echo "$("$RUSTC" --version); $cases cases at each of $fills rows; all judges gave the same answers and left the same ledgers."
 # shellcheck disable=SC2086
 python3 "$here/report.py" "$out" "$unit" $fills
-[ -z "$qemu" ] || estimate
+if [ -n "$qemu" ]; then
+    # shellcheck disable=SC2046,SC2086
+    python3 "$here/parts.py" "$out" "$out/judge-plain" $(printf '%s\n' $fills $steps | sort -n)
+    estimate
+fi

@@ -1,7 +1,7 @@
 #!/usr/bin/env python3
-"""Draws what a case costs against how full the nullifier table is.
+"""Draws what a case costs, or what parts of it cost, against how full the nullifier table is.
 
-plot.py FIGURES.TSV >SVG : the figures that bench/judge.sh left. Nothing but Python is needed.
+plot.py FIGURES.TSV >SVG, plot.py PARTS.TSV >SVG : what bench/judge.sh left. Nothing but Python is needed.
 """
 import csv
 import sys
@@ -16,24 +16,32 @@ LINES = (  # answer, column, what the line is called, colour, dashes
     ((7, 0), "proved", "refused by 7: proved", "#2f8f74", "2 3"),
     ((7, 0), "plain", "refused by 7: plain", "#c46a36", "2 3"),
 )
+PARTS = (("look for damage", "#0b6e4f"), ("moving rows", "#b5541c"), ("four searches", "#33508c"))  # column, colour
+
+
+def points(rows, column):
+    return sorted((int(row["fill"]), float(row[column])) for row in rows)
 
 
 def read(path):
+    """The title, whether there is the cost of the hashes to be shown, and the lines."""
     with open(path) as file:
         rows = list(csv.DictReader(file, delimiter="\t"))
+    if "number" not in rows[0]:
+        return "instructions of one accepted case that grow with the table", False, [(name, colour, "", points(rows, name)) for name, colour in PARTS]
     unit = [name for name in rows[0] if name in ("instructions", "nanoseconds")][0]
     lines = []
     for answer, column, name, colour, dashes in LINES:
-        points = sorted((int(row["fill"]), float(row[column])) for row in rows if (int(row["number"]), int(row["place"])) == answer)
-        lines.append((name, colour, dashes, points))
-    return unit, lines
+        answered = [row for row in rows if (int(row["number"]), int(row["place"])) == answer]
+        lines.append((name, colour, dashes, points(answered, column)))
+    return f"{unit} of one case", unit == "instructions", lines
 
 
 def scales(lines):
     """From rows and costs to places in the picture, and the marks on the axis of the costs."""
     most_rows = max(x for *_, points in lines for x, _ in points)
     most_cost = max(y for *_, points in lines for _, y in points)
-    step = next(s for s in (10_000, 20_000, 50_000, 100_000, 200_000) if most_cost / s <= 7)
+    step = next(s for s in (5_000, 10_000, 20_000, 50_000, 100_000, 200_000) if most_cost / s <= 7)
     top = (int(most_cost / step) + 1) * step
     across = lambda x: LEFT + x / most_rows * (WIDTH - LEFT - RIGHT)
     up = lambda y: HEIGHT - BOTTOM - y / top * (HEIGHT - TOP - BOTTOM)
@@ -44,14 +52,14 @@ def text(x, y, words, more=""):
     print(f'<text x="{x:.1f}" y="{y:.1f}" {more}>{words}</text>')
 
 
-def axes(across, up, marks, most_rows, unit):
+def axes(across, up, marks, most_rows, title):
     for cost in marks:
         print(f'<line x1="{LEFT}" x2="{WIDTH - RIGHT}" y1="{up(cost):.1f}" y2="{up(cost):.1f}" stroke="#ddd"/>')
         text(LEFT - 8, up(cost) + 4, f"{cost:,}", 'text-anchor="end"')
     for rows in (0, 500, 1000, 1500, most_rows):
         text(across(rows), HEIGHT - BOTTOM + 20, f"{rows:,}", 'text-anchor="middle"')
     text((LEFT + WIDTH - RIGHT) / 2, HEIGHT - 12, "nullifiers in the table", 'text-anchor="middle"')
-    text(LEFT, TOP - 20, f"{unit} of one case", 'font-weight="bold"')
+    text(LEFT, TOP - 20, title, 'font-weight="bold"')
 
 
 def hashing(up):
@@ -70,13 +78,13 @@ def labels(lines, up):
 
 
 def main():
-    unit, lines = read(sys.argv[1])
+    title, has_hashing, lines = read(sys.argv[1])
     across, up, marks, most_rows = scales(lines)
     print(f'<svg xmlns="http://www.w3.org/2000/svg" width="{WIDTH}" height="{HEIGHT}" viewBox="0 0 {WIDTH} {HEIGHT}" '
           'font-family="sans-serif" font-size="13">')
     print(f'<rect width="{WIDTH}" height="{HEIGHT}" fill="white"/>')
-    axes(across, up, marks, most_rows, unit)
-    if unit == "instructions":
+    axes(across, up, marks, most_rows, title)
+    if has_hashing:
         hashing(up)
     heights = labels(lines, up)
     for name, colour, dashes, points in lines:

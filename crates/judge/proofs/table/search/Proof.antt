@@ -47,7 +47,8 @@ half-way : (c : tie.After-middle Inv-loop μ-loop)
     (low ≤ mid) × (mid < high) × (mid - low ≤ (high - low) / 2) × (high - suc mid ≤ (high - low) / 2)
 half-way c =
     let h = some-left (c .before) in
-    (omega (arith, c .middle .ensures), omega (arith, h, c .middle .ensures), omega (arith, c .middle .ensures), omega (arith, h, c .middle .ensures))
+    let e = c .middle .ensures in
+    (omega arith, omega arith, omega arith, omega arith)
 
 start-of-requires : tie.Need-start-of-requires Inv-loop μ-loop
 start-of-requires c κs = omega (arith, half-way (c .before) .1)

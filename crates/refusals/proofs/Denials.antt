@@ -1,4 +1,4 @@
--- What the tests of a table deny: a clause for each row, which holds exactly when the row does not apply.
+-- What the tests of a table deny: a clause for each rule, which holds exactly when the rule does not apply.
 -- Assumes nothing.
 use Prim.Native.Nat.{ℕ, _<_, _≤_}
 use mathlib.Core.Path.{_≡_, refl, sym, ap}
@@ -31,12 +31,12 @@ pub both : {a b : Bool} {P Q : Type 0} → Denies a P → Denies b Q → Denies 
 both {a = true} p q = (λ h. absurd (false≢true (sym h)), λ x. p .1 (x .0))
 both {a = false} p q = (λ h. (p .0 refl, q .0 h), λ x. q .1 (x .1))
 
--- the test of the first row with that number and place
+-- the test of the first rule with that number and place
 unfoldable pub testOf : ℕ → ℕ → List Rule → Bool
 testOf n p [] = false
 testOf n p (r ∷ rs) = cond (eqb (r .number) n && eqb (r .place) p) (r .applies) (testOf n p rs)
 
--- where no row applies, it fails
+-- where no rule applies, it fails
 pub fails : (rows : List Rule) → None rows → (n p : ℕ) → testOf n p rows ≡ false
 unfolding testOf None
 fails [] h n p = refl
@@ -46,7 +46,7 @@ fails (r ∷ rs) h n p = go (eqb (r .number) n && eqb (r .place) p) (fails rs (h
     go true e = h .0
     go false e = e
 
--- what is known of each row, one after the other
+-- what is known of each rule, one after the other
 infixr 1 _&_
 pub _&_ : {P Q : Type 0} → P → Q → P × Q
 p & q = (p, q)

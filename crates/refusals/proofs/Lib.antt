@@ -1,3 +1,4 @@
+pub mod AnswerRows
 pub mod Denials
 pub mod SentenceLaws
 pub mod RuleLaws

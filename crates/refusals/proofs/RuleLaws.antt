@@ -1,4 +1,4 @@
--- What the first row that applies says of the rows, and the other way round, over any table.
+-- What the first rule that applies says of the rules, and the other way round, over any table.
 -- Assumes nothing.
 use Prim.Native.Nat.{ℕ}
 use mathlib.Core.Path.{_≡_, refl, sym, ap, _∙_}
@@ -8,7 +8,7 @@ use borrow.Author.Tests.{eqb-true, eqb-false, not-true, not-false}
 use lib.Dec.{eqb}
 use Rattle.octets.proofs.BoolLaws.{and-both}
 use Rattle.refusals.specs.declared.Answer.{Answer}
-use Rattle.refusals.specs.Rules.{Rule, rule, answer, accepted, isAccepted, first, rulesIn, forEach, None, numbered}
+use Rattle.refusals.specs.Rules.{Rule, rule, answerInRow, answer, accepted, isAccepted, first, rulesIn, forEach, None, numbered}
 
 -- a test is true or false
 pub by-test : {B : Type 0} (b : Bool) → (b ≡ true → B) → (b ≡ false → B) → B
@@ -16,7 +16,7 @@ by-test true f g = f refl
 by-test false f g = g refl
 
 module _ (r : Rule) (rs : List Rule) where
-  pub first-here : r .applies ≡ true → first (r ∷ rs) ≡ answer (r .number) (r .place)
+  pub first-here : r .applies ≡ true → first (r ∷ rs) ≡ answerInRow (r .number) (r .place) (r .row)
   unfolding first
   first-here h = rw h
 
@@ -24,7 +24,7 @@ module _ (r : Rule) (rs : List Rule) where
   unfolding first
   first-next h = rw h
 
-  -- a row that refuses has a number
+  -- a rule that refuses has a number
   pub numbered-here : numbered (r ∷ rs) ≡ true → r .number ≡ 0 → ⊥
   unfolding numbered
   numbered-here h e = eqb-false (r .number) 0 (not-true (eqb (r .number) 0) (and-both (not (eqb (r .number) 0)) (numbered rs) h .0)) e
@@ -33,7 +33,7 @@ module _ (r : Rule) (rs : List Rule) where
   unfolding numbered
   numbered-next h = and-both (not (eqb (r .number) 0)) (numbered rs) h .1
 
--- no row applies: accepted; and the other way round, where each row has a number
+-- no rule applies: accepted; and the other way round, where each rule has a number
 pub none-first : (rows : List Rule) → None rows → first rows ≡ accepted
 unfolding None first
 none-first [] h = refl
@@ -47,7 +47,7 @@ first-none (r ∷ rs) n h =
     (λ e. absurd (numbered-here r rs n (ap (λ (a : Answer). a .number) (sym (first-here r rs e)) ∙ h)))
     (λ e. (e, first-none rs (numbered-next r rs n) (ap (λ (a : Answer). a .number) (sym (first-next r rs e)) ∙ h)))
 
--- rows of which none applies are passed over
+-- rules of which none applies are passed over
 pub none-above : (a b : List Rule) → None a → first (a ++ b) ≡ first b
 unfolding None
 none-above [] b h = refl
@@ -93,7 +93,7 @@ pub last-group : (g : List Rule) → first g ≡ first (rulesIn (g ∷ []))
 unfolding rulesIn
 last-group g = ap first (sym (append-nil g))
 
--- a refusal with one row
+-- a refusal with one rule
 module _ (test : Bool) (n p : ℕ) where
   pub one-holds : test ≡ true → answer n p ≡ first (rule test n p ∷ [])
   unfolding first

@@ -9,7 +9,7 @@ use native.Mathlib.Nat.{lt-of-not-le}
 use borrow.Author.Tests.{eqb-true, eq-eqb, ltb-true, lt-ltb, le-ltb, leb-true, le-leb}
 use lib.Dec.{eqb, leb, ltb}
 use Rattle.refusals.specs.declared.Answer.{Answer}
-use Rattle.refusals.specs.Rules.{Rule, answer, first, None, numbered}
+use Rattle.refusals.specs.Rules.{Rule, answer, withoutRow, first, None, numbered}
 use Rattle.refusals.specs.Sentences.{Sentence, NoneHolds, FirstHolds, AnswersBy}
 use Rattle.refusals.proofs.RuleLaws.{by-test, first-here, first-next, none-first, first-none}
 
@@ -52,12 +52,12 @@ denied t e p = true≢false (sym (t .1 p) ∙ e)
 pub fails : {b : Bool} {P : Type 0} → Tells b P → (P → ⊥) → b ≡ false
 fails {b} t n = by-test b (λ e. absurd (n (t .0 e))) (λ e. e)
 
--- row by row: the test decides the sentence, and number and place are the same
+-- rule by rule: the test decides the sentence, and number and place are the same
 infixr 1 _&_
 pub data Agree : List Rule → List Sentence → Type 1 where
   done : Agree [] []
-  _&_ : {b : Bool} {n p : ℕ} {P : Type 0} {rs : List Rule} {ss : List Sentence} → Tells b P → Agree rs ss
-      → Agree (record { applies = b; number = n; place = p } ∷ rs) (record { Holds = P; number = n; place = p } ∷ ss)
+  _&_ : {b : Bool} {n p k : ℕ} {P : Type 0} {rs : List Rule} {ss : List Sentence} → Tells b P → Agree rs ss
+      → Agree (record { applies = b; number = n; place = p; row = k } ∷ rs) (record { Holds = P; number = n; place = p } ∷ ss)
 
 none-holds : {rs : List Rule} {ss : List Sentence} → Agree rs ss → None rs → NoneHolds ss
 unfolding None NoneHolds
@@ -69,19 +69,19 @@ unfolding None NoneHolds
 none-applies done h = tt
 none-applies (t & a) h = (fails t (h .0), none-applies a (h .1))
 
-holds-first : {rs : List Rule} {ss : List Sentence} → Agree rs ss → (n p : ℕ) → FirstHolds ss n p → first rs ≡ answer n p
+holds-first : {rs : List Rule} {ss : List Sentence} → Agree rs ss → (n p : ℕ) → FirstHolds ss n p → withoutRow (first rs) ≡ answer n p
 unfolding FirstHolds
 holds-first done n p h = absurd h
-holds-first (t & a) n p (inl h) = first-here _ _ (t .1 (h .0)) ∙ ap₂ answer (h .1 .0) (h .1 .1)
-holds-first (t & a) n p (inr h) = first-next _ _ (fails t (h .0)) ∙ holds-first a n p (h .1)
+holds-first (t & a) n p (inl h) = ap withoutRow (first-here _ _ (t .1 (h .0))) ∙ ap₂ answer (h .1 .0) (h .1 .1)
+holds-first (t & a) n p (inr h) = ap withoutRow (first-next _ _ (fails t (h .0))) ∙ holds-first a n p (h .1)
 
-first-holds : {rs : List Rule} {ss : List Sentence} → Agree rs ss → (n p : ℕ) → (n ≡ 0 → ⊥) → first rs ≡ answer n p → FirstHolds ss n p
+first-holds : {rs : List Rule} {ss : List Sentence} → Agree rs ss → (n p : ℕ) → (n ≡ 0 → ⊥) → withoutRow (first rs) ≡ answer n p → FirstHolds ss n p
 unfolding FirstHolds first
 first-holds done n p z e = absurd (z (sym (ap (λ (x : Answer). x .number) e)))
 first-holds (_&_ {b} {rs = rs} t a) n p z e =
     by-test b
-    (λ h. let g = sym (first-here _ rs h) ∙ e in inl (t .0 h, (ap (λ (x : Answer). x .number) g, ap (λ (x : Answer). x .place) g)))
-    (λ h. inr (denied t h, first-holds a n p z (sym (first-next _ rs h) ∙ e)))
+    (λ h. let g = ap withoutRow (sym (first-here _ rs h)) ∙ e in inl (t .0 h, (ap (λ (x : Answer). x .number) g, ap (λ (x : Answer). x .place) g)))
+    (λ h. inr (denied t h, first-holds a n p z (ap withoutRow (sym (first-next _ rs h)) ∙ e)))
 
 -- THE LAW
 pub answers-by : {rs : List Rule} {ss : List Sentence} → numbered rs ≡ true → Agree rs ss → AnswersBy ss (first rs)

@@ -1,4 +1,4 @@
--- A table whose rows belong to two askers, by their numbers: where the numbers never fall, its answer is the lower of the two askers' own answers.
+-- A table whose rules belong to two askers, by their numbers: where the numbers never fall, its answer is the lower of the two askers' own answers.
 -- Assumes nothing.
 use Prim.Native.Nat.{ℕ, _<_, _≤_}
 use mathlib.Core.Path.{_≡_, refl, sym, ap, _∙_}
@@ -10,7 +10,7 @@ use native.Mathlib.Nat.{eq-or-lt-of-le}
 use borrow.Author.Tests.{eqb-true, eqb-false, ne-eqb, not-true, leb-true, leb-false, le-leb, lt-leb}
 use lib.Dec.{leb}
 use Rattle.refusals.specs.declared.Answer.{Answer}
-use Rattle.refusals.specs.Rules.{Rule, answer, isAccepted, first, numbered, lower, refusesUpTo}
+use Rattle.refusals.specs.Rules.{Rule, answerInRow, isAccepted, first, numbered, lower, refusesUpTo}
 use Rattle.octets.proofs.BoolLaws.{and-both}
 use Rattle.refusals.proofs.RuleLaws.{by-test, first-here, first-next, numbered-here, numbered-next}
 
@@ -67,8 +67,8 @@ lower-accepts a b h =
     (λ g. absurd (eqb-false (a .number) 0 f (rw (e, f, g) at h)))
     (λ g. absurd (eqb-false (b .number) 0 e (rw (e, f, g) at h)))))
 
--- one who asks for himself with an answer in hand: he keeps it where it refuses with a number up to that of every row left, gives up on it where a
--- row with a lower number refuses, and has it still where none does
+-- one who asks for himself with an answer in hand: he keeps it where it refuses with a number up to that of every rule left, gives up on it where a
+-- rule with a lower number refuses, and has it still where none does
 unfoldable pub allFrom : ℕ → List Rule → Bool
 allFrom n [] = true
 allFrom n (r ∷ rs) = leb n (r .number) && allFrom n rs
@@ -120,7 +120,7 @@ pub has-still : (own b : Answer) → isAccepted b ≡ true → own ≡ lower own
 has-still own b h = rw h
 
 module _ (ours : ℕ → Bool) where
-  -- the rows of one asker
+  -- the rules of one asker
   unfoldable pub those : Bool → List Rule → List Rule
   those b [] = []
   those b (r ∷ rs) = cond (Bool·beq (ours (r .number)) b) (r ∷ those b rs) (those b rs)
@@ -183,11 +183,11 @@ module _ (ours : ℕ → Bool) where
           rw (those-in true r rs e, those-out false r rs e)
           (by-test (r .applies)
           (λ t. rw (first-here r rs t, first-here r (those true rs) t)
-          (sym (lower-left (answer (r .number) (r .place)) (first (those false rs)) z (further r false (first (those false rs)) e (those-answer false (r .number) rs (l .0))))))
+          (sym (lower-left (answerInRow (r .number) (r .place) (r .row)) (first (those false rs)) z (further r false (first (those false rs)) e (those-answer false (r .number) rs (l .0))))))
           (λ t. rw (first-next r rs t, first-next r (those true rs) t) ih))
       go ih (inr e) =
           rw (those-out true r rs e, those-in false r rs e)
           (by-test (r .applies)
           (λ t. rw (first-here r rs t, first-here r (those false rs) t)
-          (sym (lower-right (first (those true rs)) (answer (r .number) (r .place)) z (further r true (first (those true rs)) e (those-answer true (r .number) rs (l .0))))))
+          (sym (lower-right (first (those true rs)) (answerInRow (r .number) (r .place) (r .row)) z (further r true (first (those true rs)) e (those-answer true (r .number) rs (l .0))))))
           (λ t. rw (first-next r rs t, first-next r (those false rs) t) ih))

@@ -1,22 +1,31 @@
--- A table of refusals is a list of rows, read from the top. Each row is a test with the number and the place that it gives.
+-- A table of refusals is a list of rules, read from the top. Each rule is a test with the number, the place and the row of the nullifier table that it gives.
 -- Assumes nothing.
 use Prim.Native.Nat.{ℕ}
 use mathlib.Core.Path.{_≡_}
 use mathlib.Core.Bool.{Bool, true, false, cond, not, _&&_}
 use mathlib.Core.List.{List, [], _∷_, _++_}
 use lib.Dec.{eqb, leb}
+use Rattle.units.specs.RowNumbers.{rowNumbered}
 use Rattle.refusals.specs.declared.Answer.{Answer}
 
 pub record Rule : Type 0 where
   pub applies : Bool
   pub number : ℕ
   pub place : ℕ
+  pub row : ℕ
+
+-- a rule that gives row k, and one that gives none, which is row 0
+abbrev pub ruleInRow : Bool → ℕ → ℕ → ℕ → Rule
+ruleInRow b n p k = record { applies = b; number = n; place = p; row = k }
 
 abbrev pub rule : Bool → ℕ → ℕ → Rule
-rule b n p = record { applies = b; number = n; place = p }
+rule b n p = ruleInRow b n p 0
+
+abbrev pub answerInRow : ℕ → ℕ → ℕ → Answer
+answerInRow n p k = record { number = n; place = p; row = rowNumbered k }
 
 abbrev pub answer : ℕ → ℕ → Answer
-answer n p = record { number = n; place = p }
+answer n p = answerInRow n p 0
 
 abbrev pub accepted : Answer
 accepted = answer 0 0
@@ -28,12 +37,16 @@ notGiven = answer 255 0
 abbrev pub isAccepted : Answer → Bool
 isAccepted a = eqb (a .number) 0
 
--- the first row that applies, and acceptance where none does
+-- number and place alone
+abbrev pub withoutRow : Answer → Answer
+withoutRow a = answer (a .number) (a .place)
+
+-- the first rule that applies, and acceptance where none does
 unfoldable pub first : List Rule → Answer
 first [] = accepted
-first (r ∷ rs) = cond (r .applies) (answer (r .number) (r .place)) (first rs)
+first (r ∷ rs) = cond (r .applies) (answerInRow (r .number) (r .place) (r .row)) (first rs)
 
--- the rows of several refusals, one refusal after the other
+-- the rules of several refusals, one refusal after the other
 unfoldable pub rulesIn : List (List Rule) → List Rule
 rulesIn [] = []
 rulesIn (g ∷ gs) = g ++ rulesIn gs
@@ -42,12 +55,12 @@ rulesIn (g ∷ gs) = g ++ rulesIn gs
 abbrev pub forEach : (ℕ → Bool) → ℕ → List Rule
 forEach test n = rule (test 1) n 1 ∷ rule (test 2) n 2 ∷ []
 
--- no row applies
+-- no rule applies
 unfoldable pub None : List Rule → Type 0
 None [] = Unit {0}
 None (r ∷ rs) = (r .applies ≡ false) × None rs
 
--- no row has the number 0, which stands for acceptance
+-- no rule has the number 0, which stands for acceptance
 unfoldable pub numbered : List Rule → Bool
 numbered [] = true
 numbered (r ∷ rs) = not (eqb (r .number) 0) && numbered rs

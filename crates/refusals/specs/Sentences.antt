@@ -6,7 +6,7 @@ use mathlib.Core.Path.{_≡_}
 use mathlib.Core.Logic.{_⊎_}
 use mathlib.Core.List.{List, [], _∷_}
 use Rattle.refusals.specs.declared.Answer.{Answer}
-use Rattle.refusals.specs.Rules.{answer, accepted}
+use Rattle.refusals.specs.Rules.{answer, withoutRow, accepted}
 
 -- what holds when a refusal applies, and the refusal's number and place
 pub record Sentence : Type 1 where
@@ -27,10 +27,11 @@ unfoldable pub FirstHolds : List Sentence → ℕ → ℕ → Type 0
 FirstHolds [] n p = ⊥
 FirstHolds (s ∷ ss) n p = (s .Holds × ((s .number ≡ n) × (s .place ≡ p))) ⊎ ((s .Holds → ⊥) × FirstHolds ss n p)
 
--- AN ANSWER BY SENTENCES: a refusal is given where it is the first that holds, and at no other time; acceptance where none holds, and at no other time
+-- AN ANSWER BY SENTENCES: a refusal is given where it is the first that holds, and at no other time; acceptance where none holds, and at no other time.
+-- Sentences speak of number and place
 pub record AnswersBy (ss : List Sentence) (a : Answer) : Type 0 where
-  pub refused : (n p : ℕ) → FirstHolds ss n p → a ≡ answer n p
-  pub refused-only : (n p : ℕ) → (n ≡ 0 → ⊥) → a ≡ answer n p → FirstHolds ss n p
+  pub refused : (n p : ℕ) → FirstHolds ss n p → withoutRow a ≡ answer n p
+  pub refused-only : (n p : ℕ) → (n ≡ 0 → ⊥) → withoutRow a ≡ answer n p → FirstHolds ss n p
   pub passed : NoneHolds ss → a ≡ accepted
   pub passed-only : a .number ≡ 0 → NoneHolds ss
 

@@ -19,8 +19,8 @@ ghost use lib.ListN.{length};
 ghost use Rattle.refusals.specs.Rules.{first, rulesIn};
 ghost use Rattle.units.specs.Pairs.{numberOf};
 ghost use Rattle.casefile.specs.Fields.{hasLength, anchorOf, nullifierOf};
-ghost use Rattle.ledger.specs.Sorted.{rising};
-ghost use Rattle.ledger.specs.Rows.{byteOrder, among};
+ghost use Rattle.ledger.specs.Sorted.{rising, find};
+ghost use Rattle.ledger.specs.Rows.{byteOrder};
 ghost use Rattle.ledger.specs.Ledgers.{roomIn, spentRows, damaged, no2, no3, no6, no8};
 ghost use Rattle.ledgerbytes.specs.LedgerBytes.{bare};
 ghost use Rattle.judge.specs.Judging.{frontRefusals};
@@ -98,21 +98,17 @@ fn is_anchored(roll: &[u8], counts: Counts, case: &[u8]) -> Answer
     }
 }
 
-// 8
-fn is_spent(table: &[u8], counts: Counts, case: &[u8], i: Which) -> bool
+// Where a nullifier of the case stands in the table, or would go.
+fn look_up(table: &[u8], counts: Counts, case: &[u8], i: Which) -> Found
     requires { ⌜ counts .nullifiers * 32 ≤ length (now table) ⌝ }
     requires { ⌜ rising byteOrder (spentRows (now table) (bare counts)) ≡ true ⌝ }
-    ensures { λ r. ⌜ r ≡ among (nullifierOf (numberOf i) (now (case .entry))) (spentRows (now (table .entry)) (bare counts)) ⌝ }
+    ensures { λ r. ⌜ r ≡ find byteOrder (nullifierOf (numberOf i) (now (case .entry))) (spentRows (now (table .entry)) (bare counts)) ⌝ }
 {
-    let row = casefile::nullifier(case, i);
-    let f = search(table, counts.nullifiers, &row);
-    match f {
-        Found::At(_) => true,
-        Found::Gap(_) => false,
-    }
+    let nullifier = casefile::nullifier(case, i);
+    search(table, counts.nullifiers, &nullifier)
 }
 
-// In an empty table nothing is looked for.
+// 8, with the row where it stands. In an empty table nothing is looked for.
 fn are_unspent(table: &[u8], counts: Counts, case: &[u8]) -> Answer
     requires { ⌜ counts .nullifiers * 32 ≤ length (now table) ⌝ }
     requires { ⌜ rising byteOrder (spentRows (now table) (bare counts)) ≡ true ⌝ }
@@ -121,13 +117,18 @@ fn are_unspent(table: &[u8], counts: Counts, case: &[u8]) -> Answer
     if counts.nullifiers == 0 {
         return Answer::accepted();
     }
-    if is_spent(table, counts, case, Which::First) {
-        return Answer::refused(8, 1);
+    let one = look_up(table, counts, case, Which::First);
+    match one {
+        Found::At(row) => {
+            return Answer::refused_in_row(8, 1, row);
+        }
+        Found::Gap(_) => {}
     }
-    if is_spent(table, counts, case, Which::Second) {
-        return Answer::refused(8, 2);
+    let two = look_up(table, counts, case, Which::Second);
+    match two {
+        Found::At(row) => Answer::refused_in_row(8, 2, row),
+        Found::Gap(_) => Answer::accepted(),
     }
-    Answer::accepted()
 }
 
 // What the ledger and the case's public part say, in the order of the numbers: the case's own answer is asked

@@ -6,5 +6,6 @@ pub mod Sorting
 pub mod TableLaws
 pub mod Signed
 pub mod Soundness
+pub mod Spent
 pub mod Endings
 pub mod Entering

@@ -12,7 +12,8 @@ use Rattle.octets.specs.Parts.{pasted}
 use Rattle.octets.specs.Rows.{rowsOf, flat}
 use Rattle.octets.proofs.PartLaws.{pasted-is}
 use Rattle.octets.proofs.RowLaws.{rows-length, rows-at, take-rows, drop-rows, flat-append, flat-rows}
-use Rattle.ledger.specs.Sorted.{rowNumbered, isLess, isEqual, placeOf, isGap, rising, find, insertAll}
+use Rattle.units.specs.RowNumbers.{rowNumbered}
+use Rattle.ledger.specs.Sorted.{isLess, isEqual, placeOf, isGap, rising, find, insertAll}
 use Rattle.ledger.specs.Rows.{byteOrder, rowAt, shifted, tableWith, withRow, among}
 use Rattle.ledger.specs.declared.Order.the-variants.{Less, Equal, Greater}
 use Rattle.ledger.specs.declared.Found.the-variants.{At, Gap}

@@ -11,12 +11,12 @@ use lib.ListN.{length}
 use Rattle.octets.specs.Parts.{pasted}
 use Rattle.octets.specs.Rows.{rowsOf}
 use Rattle.units.specs.Limits.{maxMoney}
-use Rattle.refusals.specs.Rules.{Rule, rule, rulesIn, first, isAccepted}
+use Rattle.refusals.specs.Rules.{Rule, ruleInRow, rule, rulesIn, first, isAccepted}
 use Rattle.nodes.specs.CommitmentTree.{treeRoot}
 use Rattle.tree.specs.Record.{freshOf, grown, recordRoot}
 use Rattle.ledger.specs.declared.Ledger.{Ledger}
 use Rattle.ledger.specs.Sorted.{rising}
-use Rattle.ledger.specs.Rows.{byteOrder, Fresh, among}
+use Rattle.ledger.specs.Rows.{byteOrder, Fresh, among, rowNumberOf}
 
 -- how many rows a lent length holds, and at most so many
 abbrev pub mostNullifiers : ℕ
@@ -66,9 +66,10 @@ no3 t l = rule (ltb (roomIn mostNullifiers (length t)) (l .nullifiers + 2)) 3 0 
 unfoldable pub no6 : List ℕ → Ledger → List ℕ → List Rule
 no6 r l anchor = rule (not (among anchor (anchorRows r l))) 6 0 ∷ []
 
--- nullifier i is in the table
+-- nullifier i is in the table; the refusal carries its row
 unfoldable pub no8 : List ℕ → Ledger → List ℕ → List ℕ → List Rule
-no8 t l one two = rule (among one (spentRows t l)) 8 1 ∷ rule (among two (spentRows t l)) 8 2 ∷ []
+no8 t l one two =
+    ruleInRow (among one (spentRows t l)) 8 1 (rowNumberOf one (spentRows t l)) ∷ ruleInRow (among two (spentRows t l)) 8 2 (rowNumberOf two (spentRows t l)) ∷ []
 
 unfoldable pub ledgerRefusals : List ℕ → List ℕ → Ledger → List ℕ → List ℕ → List ℕ → List Rule
 ledgerRefusals t r l anchor one two = rulesIn (no2 t r l ∷ no3 t l ∷ no6 r l anchor ∷ no8 t l one two ∷ [])

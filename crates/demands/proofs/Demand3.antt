@@ -15,9 +15,10 @@ use Rattle.octets.specs.Parts.{same}
 use Rattle.octets.specs.Rows.{Long}
 use Rattle.octets.proofs.PartLaws.{same-eq}
 use Rattle.refusals.specs.declared.Answer.{Answer}
-use Rattle.refusals.specs.Rules.{Rule, answer, accepted, isAccepted, first, rulesIn, lower}
+use Rattle.refusals.specs.Rules.{Rule, answer, withoutRow, accepted, isAccepted, first, rulesIn, lower}
 use Rattle.refusals.proofs.RuleLaws.{by-test}
 use Rattle.refusals.proofs.TwoTables.{lower-accepts}
+use Rattle.refusals.proofs.AnswerRows.{withoutRows, without-first, without-lower}
 use Rattle.casefile.specs.Fields.{hasLength, vpubOldOf, vpubNewOf, anchorOf, nullifierOf, commitmentOf}
 use Rattle.statement.specs.CaseRefusals.{no1, caseRefusals}
 use Rattle.statement.proofs.Clauses.{unlike, accepted-clauses, clauses-accepted}
@@ -30,7 +31,7 @@ use Rattle.ledger.proofs.TableLaws.{either-order}
 use Rattle.judge.specs.Judging.{judgeRefusals, answerOf, ledgerAfterCase, tableAfterCase}
 use Rattle.judge.proofs.Halves.{answer-lower}
 use Rattle.judge.proofs.Outcomes.{refused-ledger, refused-table}
-use Rattle.demands.specs.Histories.{Held, heldAfter, answerOn, ValidOn}
+use Rattle.demands.specs.Histories.{judged, Held, heldAfter, answerOn, ValidOn}
 use Rattle.demands.specs.Pairs.{ShareNone, IsOneOf, ShareSome, at-1, at-2, RoomForTwo, SameEnd, OrderFree, OneOfTwo}
 use Rattle.demands.proofs.Demand2.{accepted-valid, valid-accepted}
 use Rattle.demands.proofs.OneCase.{sound-before, ready-before, table-is, ledger-is, length-then, sound-then, other-then, own-then, nullifier-long}
@@ -44,6 +45,13 @@ wrong-length d t r l h = rw h
 right-length : (c t r : List ℕ) (l : Ledger) → answerOf c t r l .number ≡ 0 → hasLength c ≡ true
 right-length c t r l h =
     by-test (hasLength c) (λ e. e) (λ e. let z : _≡_ {A = ℕ} 1 0 = ap (λ (a : Answer). a .number) (sym (wrong-length c t r l e)) ∙ h in absurd (omega arith))
+
+-- number and place are those that the rules give without a row
+by-rules : (d t r : List ℕ) (l : Ledger)
+    → withoutRow (answerOf d t r l) ≡ lower (withoutRow (first (caseRefusals d))) (first (withoutRows (ledgerRefusals t r l (anchorOf d) (nullifierOf 1 d) (nullifierOf 2 d))))
+by-rules d t r l =
+    let rules = ledgerRefusals t r l (anchorOf d) (nullifierOf 1 d) (nullifierOf 2 d) in
+    ap withoutRow (answer-lower d t r l) ∙ without-lower (first (caseRefusals d)) (first rules) ∙ ap (lower (withoutRow (first (caseRefusals d)))) (without-first rules)
 
 -- EACH GETS THE ANSWER IT WOULD GET ALONE: d after c, and d alone
 module _ (c d t r : List ℕ) (l : Ledger) (room : l .nullifiers + 4 ≤ roomIn mostNullifiers (length t)) where
@@ -85,23 +93,23 @@ module _ (c d t r : List ℕ) (l : Ledger) (room : l .nullifiers + 4 ≤ roomIn 
         (other-then c t r l h (nullifierOf 1 d) (unlike .1 (n .0 .0)) (unlike .1 (n .1 .0)), other-then c t r l h (nullifierOf 2 d) (unlike .1 (n .0 .1)) (unlike .1 (n .1 .1)))
 
     ledger-same : ShareNone c d → hasLength d ≡ true
-        → ledgerRefusals t′ r l′ (anchorOf d) (nullifierOf 1 d) (nullifierOf 2 d) ≡ ledgerRefusals t r l (anchorOf d) (nullifierOf 1 d) (nullifierOf 2 d)
-    unfolding ledgerRefusals rulesIn no2 no3 no6 no8
+        → withoutRows (ledgerRefusals t′ r l′ (anchorOf d) (nullifierOf 1 d) (nullifierOf 2 d)) ≡ withoutRows (ledgerRefusals t r l (anchorOf d) (nullifierOf 1 d) (nullifierOf 2 d))
+    unfolding withoutRows ledgerRefusals rulesIn no2 no3 no6 no8
     ledger-same none e =
         let u = unshared none e in
         rw (still-sound, was-sound, still-room, had-room, same-roll, u .0, u .1)
 
-  alone : ShareNone c d → answerOf d t′ r l′ ≡ answerOf d t r l
+  alone : ShareNone c d → withoutRow (answerOf d t′ r l′) ≡ withoutRow (answerOf d t r l)
   alone none =
       by-test (isAccepted (answerOf c t r l))
       (λ e. accepted-first (eqb-true (answerOf c t r l .number) 0 e))
-      (λ e. ap₂ (λ (u : List ℕ) (m : Ledger). answerOf d u r m) (refused-table c t r l e) (refused-ledger c t r l e))
+      (λ e. ap₂ (λ (u : List ℕ) (m : Ledger). withoutRow (answerOf d u r m)) (refused-table c t r l e) (refused-ledger c t r l e))
     where
-      accepted-first : answerOf c t r l .number ≡ 0 → answerOf d t′ r l′ ≡ answerOf d t r l
+      accepted-first : answerOf c t r l .number ≡ 0 → withoutRow (answerOf d t′ r l′) ≡ withoutRow (answerOf d t r l)
       accepted-first h =
           by-test (hasLength d)
-          (λ e. answer-lower d t′ r l′ ∙ ap (λ (rows : List Rule). lower (first (caseRefusals d)) (first rows)) (ledger-same h none e) ∙ sym (answer-lower d t r l))
-          (λ e. wrong-length d t′ r l′ e ∙ sym (wrong-length d t r l e))
+          (λ e. by-rules d t′ r l′ ∙ ap (λ (rules : List Rule). lower (withoutRow (first (caseRefusals d))) (first rules)) (ledger-same h none e) ∙ sym (by-rules d t r l))
+          (λ e. ap withoutRow (wrong-length d t′ r l′ e ∙ sym (wrong-length d t r l e)))
 
   -- A NULLIFIER IN COMMON: of two that would each pass, the later one is refused with 8, at its lowest place that was spent
   module _ (h : answerOf c t r l .number ≡ 0) (k : answerOf d t r l .number ≡ 0) where
@@ -114,23 +122,23 @@ module _ (c d t r : List ℕ) (l : Ledger) (room : l .nullifiers + 4 ≤ roomIn 
     anchored : among (anchorOf d) (anchorRows r l′) ≡ true
     anchored = rw (same-roll h) (member-among (anchorOf d) (anchorRows r l) (accepted-valid d t r l k .rules .anchor))
 
-    spent-first : among (nullifierOf 1 d) (spentRows t′ l′) ≡ true → answerOf d t′ r l′ ≡ answer 8 1
+    spent-first : among (nullifierOf 1 d) (spentRows t′ l′) ≡ true → withoutRow (answerOf d t′ r l′) ≡ answer 8 1
     unfolding ledgerRefusals rulesIn no2 no3 no6 no8 first
-    spent-first e = answer-lower d t′ r l′ ∙ rw (own-passes, still-sound h, still-room h, anchored, e)
+    spent-first e = ap withoutRow (answer-lower d t′ r l′) ∙ rw (own-passes, still-sound h, still-room h, anchored, e)
 
-    spent-second : among (nullifierOf 1 d) (spentRows t′ l′) ≡ false → among (nullifierOf 2 d) (spentRows t′ l′) ≡ true → answerOf d t′ r l′ ≡ answer 8 2
+    spent-second : among (nullifierOf 1 d) (spentRows t′ l′) ≡ false → among (nullifierOf 2 d) (spentRows t′ l′) ≡ true → withoutRow (answerOf d t′ r l′) ≡ answer 8 2
     unfolding ledgerRefusals rulesIn no2 no3 no6 no8 first
-    spent-second e f = answer-lower d t′ r l′ ∙ rw (own-passes, still-sound h, still-room h, anchored, e, f)
+    spent-second e f = ap withoutRow (answer-lower d t′ r l′) ∙ rw (own-passes, still-sound h, still-room h, anchored, e, f)
 
     -- the nullifier of d at place 1 is one of c's
-    refused-at-1 : (nullifierOf 1 c ≡ nullifierOf 1 d) ⊎ (nullifierOf 2 c ≡ nullifierOf 1 d) → answerOf d t′ r l′ ≡ answer 8 1
+    refused-at-1 : (nullifierOf 1 c ≡ nullifierOf 1 d) ⊎ (nullifierOf 2 c ≡ nullifierOf 1 d) → withoutRow (answerOf d t′ r l′) ≡ answer 8 1
     refused-at-1 s =
         let own = own-then c t r l h in
         spent-first (⊎-elim (λ (e : nullifierOf 1 c ≡ nullifierOf 1 d). rw (sym e) (own .0)) (λ (e : nullifierOf 2 c ≡ nullifierOf 1 d). rw (sym e) (own .1)) s)
 
     -- the one at place 1 is not, and the one at place 2 is
     refused-at-2 : (nullifierOf 1 c ≡ nullifierOf 1 d → ⊥) → (nullifierOf 2 c ≡ nullifierOf 1 d → ⊥) → (nullifierOf 1 c ≡ nullifierOf 2 d) ⊎ (nullifierOf 2 c ≡ nullifierOf 2 d)
-        → answerOf d t′ r l′ ≡ answer 8 2
+        → withoutRow (answerOf d t′ r l′) ≡ answer 8 2
     refused-at-2 p q s =
         let own = own-then c t r l h in
         let unspent = accepted-valid d t r l k .rules .unspent .0 in
@@ -161,6 +169,10 @@ turned c d none e f =
 
 passes : (c : List ℕ) (b : Held) → ValidOn c b → answerOn c b .number ≡ 0
 passes c b v = ap (λ (a : Answer). a .number) (valid-accepted c (b .table) (b .roll) (b .ledger) v)
+
+-- a number 0 is a whole acceptance
+whole : (c : List ℕ) (b : Held) → answerOn c b .number ≡ 0 → answerOn c b ≡ accepted
+whole c b h = valid-accepted c (b .table) (b .roll) (b .ledger) (accepted-valid c (b .table) (b .roll) (b .ledger) h)
 
 -- BOTH ORDERS END ALIKE
 same-end : (c d : List ℕ) (b : Held) → RoomForTwo b → ShareNone c d → ValidOn c b → ValidOn d b → SameEnd c d b
@@ -208,7 +220,13 @@ order-free c d b room none =
           λ v w.
           let p = valid-accepted c t r l v in
           let q = valid-accepted d t r l w in
-          record { c-first = p; then-d = d-second ∙ q; d-first = q; then-c = c-second ∙ p; same-end = same-end c d b room none v w };
+          record {
+            c-first = p;
+            then-d = whole d (heldAfter (judged c) b) (ap (λ (a : Answer). a .number) (d-second ∙ ap withoutRow q));
+            d-first = q;
+            then-c = whole c (heldAfter (judged d) b) (ap (λ (a : Answer). a .number) (c-second ∙ ap withoutRow p));
+            same-end = same-end c d b room none v w;
+          };
     }
 
 -- WHICHEVER NULLIFIER THEY SHARE, the earlier one passes and the later is refused, at its lowest place that was spent

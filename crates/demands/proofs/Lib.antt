@@ -10,3 +10,4 @@ pub mod History
 pub mod Limits
 pub mod OneCase
 pub mod Premises
+pub mod WhereSpent

@@ -8,7 +8,7 @@ use mathlib.Core.Bool.{true}
 use mathlib.Core.List.{List, _++_, List·Memᴰ}
 use lib.ListN.{length}
 use Rattle.units.specs.Pairs.{ForBoth}
-use Rattle.refusals.specs.Rules.{answer, accepted}
+use Rattle.refusals.specs.Rules.{answer, withoutRow, accepted}
 use Rattle.casefile.specs.Fields.{hasLength, nullifierOf}
 use Rattle.tree.specs.Record.{grown}
 use Rattle.ledger.specs.Ledgers.{mostNullifiers, roomIn}
@@ -64,10 +64,11 @@ pub record BothPass (c d : List ℕ) (b : Held) : Type 0 where
   pub then-c : answerOn c (heldAfter (judged d) b) ≡ accepted
   pub same-end : SameEnd c d b
 
--- THE ORDER DOES NOT MATTER: to be first is to be alone, and the second is answered as if it were first; two that are valid both pass
+-- THE ORDER DOES NOT MATTER: to be first is to be alone, and the second is answered as if it were first, by number and place; two that are valid both
+-- pass. The row of a nullifier that was spent before is no part of this: the first case may have moved it
 pub record OrderFree (c d : List ℕ) (b : Held) : Type 0 where
-  pub c-second : answerOn c (heldAfter (judged d) b) ≡ answerOn c b
-  pub d-second : answerOn d (heldAfter (judged c) b) ≡ answerOn d b
+  pub c-second : withoutRow (answerOn c (heldAfter (judged d) b)) ≡ withoutRow (answerOn c b)
+  pub d-second : withoutRow (answerOn d (heldAfter (judged c) b)) ≡ withoutRow (answerOn d b)
   pub both : ValidOn c b → ValidOn d b → BothPass c d b
 
 -- ONE OF TWO: c passes, and d after it is refused with 8, at its lowest place that c spent
@@ -75,4 +76,4 @@ pub record OneOfTwo (c d : List ℕ) (b : Held) : Type 0 where
   pub c-passes : answerOn c b ≡ accepted
   pub place : ℕ
   pub lowest : LowestShared c d place
-  pub d-refused : answerOn d (heldAfter (judged c) b) ≡ answer 8 place
+  pub d-refused : withoutRow (answerOn d (heldAfter (judged c) b)) ≡ answer 8 place

@@ -17,7 +17,7 @@ use Rattle.tree.specs.Record.{pathEnd}
 use Rattle.casefile.specs.Fields.{vpubOldOf, vpubNewOf, anchorOf, nullifierOf, commitmentOf, tagOf, oldKeyOf, oldAddressOf, oldValueOf, oldRhoOf, oldPositionOf, oldPathOf, newRhoOf, phiOf}
 use Rattle.ledger.specs.declared.Ledger.{Ledger}
 use Rattle.ledger.specs.declared.Order.the-variants.{Less}
-use Rattle.ledger.specs.Rows.{byteOrder}
+use Rattle.ledger.specs.Rows.{byteOrder, rowAt}
 use Rattle.ledger.specs.Ledgers.{mostNullifiers, mostAnchors, roomIn, spentRows, anchorRows}
 use Rattle.demands.specs.Validity.{LeavesFree, oldNote, newNote, valueIn, valueOut, hSig}
 
@@ -75,6 +75,12 @@ caseSentences c t r l =
     ∷ refuse 16 1 (commitmentOf 1 c ≡ newNote 1 c → ⊥)
     ∷ refuse 16 2 (commitmentOf 2 c ≡ newNote 2 c → ⊥)
     ∷ []
+
+-- WHERE A NULLIFIER STANDS that was spent before: row k of the table is in use and is x, and no other row in use is
+pub record StandsIn (x t : List ℕ) (l : Ledger) (k : ℕ) : Type 0 where
+  pub used : k < l .nullifiers
+  pub there : rowAt t k ≡ x
+  pub alone : (j : ℕ) → j < l .nullifiers → rowAt t j ≡ x → j ≡ k
 
 -- every number with its places, in the order in which they are asked
 unfoldable pub allPlaces : List Answer

@@ -8,7 +8,7 @@ ghost use lib.ListN.{length};
 ghost use Rattle.text.specs.Pen.{pen, Wrote};
 ghost use Rattle.text.specs.Decimal.{decimal, signedBy};
 ghost use Rattle.text.specs.Hex.{hexDigit, hexByte, hex, hex64};
-ghost use Rattle.text.specs.Answers.{answerWords, answerLine};
+ghost use Rattle.text.specs.Answers.{answerWords, answerLine, spentRowLine, answerAndRow};
 ghost use Rattle.text.specs.Words.{nameLine};
 use refusals::Answer;
 
@@ -119,6 +119,26 @@ pub fn put_answer_line(out: &mut [u8], at: usize, word: &[u8], a: Answer) -> usi
 {
     let next = put_answer(out, at, word, a);
     put(out, next, b"\n")
+}
+
+// The line of the row in which a nullifier that is refused as spent stands; of any other answer nothing.
+fn put_spent_row(out: &mut [u8], at: usize, a: Answer) -> usize
+    ensures { λ r. ⌜ Wrote 25 (spentRowLine a) (pen (now (out .entry)) at) (pen (now (out .exit)) r) ⌝ }
+{
+    if a.number == 8 {
+        let row = a.row;
+        let told = put_count(out, at, b"row ", row.index() as u64);
+        return put(out, told, b"\n");
+    }
+    at
+}
+
+// An answer's line, and behind it that of a spent nullifier's row.
+pub fn put_answer_and_row(out: &mut [u8], at: usize, word: &[u8], a: Answer) -> usize
+    ensures { λ r. ⌜ Wrote (length (now (word .entry)) + 68) (answerAndRow (now (word .entry)) a) (pen (now (out .entry)) at) (pen (now (out .exit)) r) ⌝ }
+{
+    let answered = put_answer_line(out, at, word, a);
+    put_spent_row(out, answered, a)
 }
 
 // The line that names what follows.

@@ -2,21 +2,21 @@
 -- Assumes nothing.
 use Prim.Native.Nat.{ℕ}
 use mathlib.Core.Path.{_≡_, refl, ap, _∙_}
-use mathlib.Core.Bool.{false}
+use mathlib.Core.Bool.{Bool, true, false}
 use mathlib.Core.List.{List, [], _∷_, _++_, flatMap}
 use native.Mathlib.Omega.{arith}
 use lib.IntN.{pos, negsuc}
 use Rattle.text.specs.Words.{ascii}
 use Rattle.text.specs.Decimal.{decimal, decimalWithin, signed, signedBy}
-use Rattle.text.specs.Answers.{answerWords, answerLine}
+use Rattle.text.specs.Answers.{answerWords, answerLine, spentRowLine, answerAndRow}
 use Rattle.text.proofs.DecimalLaws.{decimal-within}
 use Rattle.refusals.specs.declared.Answer.{Answer}
-use Rattle.refusals.specs.Rules.{answer, accepted}
+use Rattle.refusals.specs.Rules.{answer, answerInRow, accepted}
 use Rattle.ledger.specs.declared.Ledger.{Ledger}
 use Rattle.bag.specs.Contents.{laidOut}
 use Rattle.bag.specs.SealAndCases.{sealIn, sevenAnswers, report, scannedOf}
 use Rattle.scanning.specs.FreshLedger.{freshScan}
-use Rattle.scanning.specs.Lines.{caseLines, ledgerLine, linesOf}
+use Rattle.scanning.specs.Lines.{caseText, caseLines, ledgerLine, linesOf}
 
 -- THE EXAMPLE of document 01: a case that passes, and the same case again, whose first nullifier is spent by then
 counts : ascii "ledger spent " ++ decimal 2 ++ ascii " leaves " ++ decimal 2 ++ ascii " pool " ++ signed (pos 10000) ++ ascii "\n"
@@ -29,20 +29,29 @@ ledger-example : (l : Ledger) → l .nullifiers ≡ 2 → l .tree .leaves ≡ 2 
 unfolding ledgerLine
 ledger-example l h k m = rw (h, k, m) counts
 
-pub example : (l : Ledger) → l .nullifiers ≡ 2 → l .tree .leaves ≡ 2 → l .pool .0 ≡ pos 10000
-    → linesOf (report accepted accepted (accepted ∷ answer 8 1 ∷ []) l) ≡ ascii "seal 0 0\ncase 0 0\ncase 8 1\nledger spent 2 leaves 2 pool 10000\n"
-unfolding linesOf caseLines flatMap answerLine answerWords report sevenAnswers decimal decimalWithin
-example l h k m = rw (ledger-example l h k m)
+-- in whichever row that stands
+pub example : (row : ℕ) (l : Ledger) → l .nullifiers ≡ 2 → l .tree .leaves ≡ 2 → l .pool .0 ≡ pos 10000
+    → linesOf false (report accepted accepted (accepted ∷ answerInRow 8 1 row ∷ []) l)
+    ≡ ascii "seal 0 0\ncase 0 0\ncase 8 1\nledger spent 2 leaves 2 pool 10000\n"
+unfolding linesOf caseLines caseText flatMap answerLine answerWords report sevenAnswers decimal decimalWithin
+example row l h k m = rw (ledger-example l h k m)
+
+-- and where rows are told, with the line of that row
+pub example-explained : (l : Ledger) → l .nullifiers ≡ 2 → l .tree .leaves ≡ 2 → l .pool .0 ≡ pos 10000
+    → linesOf true (report accepted accepted (accepted ∷ answerInRow 8 1 0 ∷ []) l)
+    ≡ ascii "seal 0 0\ncase 0 0\ncase 8 1\nrow 0\nledger spent 2 leaves 2 pool 10000\n"
+unfolding linesOf caseLines caseText flatMap answerAndRow spentRowLine answerLine answerWords report sevenAnswers decimal decimalWithin
+example-explained l h k m = rw (ledger-example l h k m)
 
 -- A BROKEN LAYOUT, of any bag that has one
-pub broken : (b : List ℕ) → laidOut b ≡ false → linesOf (freshScan b) ≡ ascii "bag 20 0\n"
+pub broken : (rows : Bool) (b : List ℕ) → laidOut b ≡ false → linesOf rows (freshScan b) ≡ ascii "bag 20 0\n"
 unfolding linesOf answerLine answerWords freshScan scannedOf report sealIn decimal decimalWithin
-broken b h = rw h
+broken rows b h = rw h
 
 -- A REFUSED SEAL, whatever else the result says
-pub refused-seal : (given : List Answer) (l : Ledger) → linesOf (report accepted (answer 23 0) given l) ≡ ascii "seal 23 0\n"
+pub refused-seal : (rows : Bool) (given : List Answer) (l : Ledger) → linesOf rows (report accepted (answer 23 0) given l) ≡ ascii "seal 23 0\n"
 unfolding linesOf answerLine answerWords report decimal decimalWithin
-refused-seal given l = refl
+refused-seal rows given l = refl
 
 -- THE LEAST POOL AND THE GREATEST
 least-size : decimalWithin 20 9223372036854775808 ≡ ascii "9223372036854775808"

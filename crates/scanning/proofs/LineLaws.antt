@@ -2,7 +2,7 @@
 -- Assumes nothing.
 use Prim.Native.Nat.{ℕ, _≤_, _<_, min}
 use mathlib.Core.Path.{_≡_, sym, _∙_}
-use mathlib.Core.Bool.{true, false}
+use mathlib.Core.Bool.{Bool, true, false}
 use mathlib.Core.List.{List, _++_, append-assoc}
 use native.Mathlib.Nat.{lt-of-not-le}
 use native.Mathlib.Decide.{decLe}
@@ -37,15 +37,16 @@ take-min n k l h = go (decLe n k)
         take-all (min n k) l (omega arith) ∙ sym (take-all n l (omega arith))
 
 -- all lines, by what was refused
-pub lines-bag : (s : Scanned) → isAccepted (s .layout) ≡ false → answerLine (ascii "bag") (s .layout) ≡ linesOf s
+pub lines-bag : (rows : Bool) (s : Scanned) → isAccepted (s .layout) ≡ false → answerLine (ascii "bag") (s .layout) ≡ linesOf rows s
 unfolding linesOf
-lines-bag s h = rw h
+lines-bag rows s h = rw h
 
-pub lines-seal : (s : Scanned) → isAccepted (s .layout) ≡ true → isAccepted (s .seal) ≡ false → answerLine (ascii "seal") (s .seal) ≡ linesOf s
+pub lines-seal : (rows : Bool) (s : Scanned) → isAccepted (s .layout) ≡ true → isAccepted (s .seal) ≡ false
+    → answerLine (ascii "seal") (s .seal) ≡ linesOf rows s
 unfolding linesOf
-lines-seal s h k = rw (h, k)
+lines-seal rows s h k = rw (h, k)
 
-pub lines-all : (s : Scanned) → isAccepted (s .layout) ≡ true → isAccepted (s .seal) ≡ true
-    → answerLine (ascii "seal") (s .seal) ++ caseLines (take (s .cases) (s .answers)) ++ ledgerLine (s .ledger) ≡ linesOf s
+pub lines-all : (rows : Bool) (s : Scanned) → isAccepted (s .layout) ≡ true → isAccepted (s .seal) ≡ true
+    → answerLine (ascii "seal") (s .seal) ++ caseLines rows (take (s .cases) (s .answers)) ++ ledgerLine (s .ledger) ≡ linesOf rows s
 unfolding linesOf
-lines-all s h k = rw (h, k)
+lines-all rows s h k = rw (h, k)

@@ -6,7 +6,7 @@ ghost use Prim.Native.Nat.{min};
 ghost use lib.ListN.{take};
 ghost use Rattle.text.specs.Decimal.{signed};
 ghost use Rattle.text.specs.Pen.{pen, Wrote, Rendered};
-ghost use Rattle.scanning.specs.Lines.{caseLines, ledgerLine, linesOf};
+ghost use Rattle.scanning.specs.Lines.{caseText, caseLines, ledgerLine, linesOf};
 ghost use Rattle.scanning.specs.FreshLedger.{calibrated, freshScan};
 use bag::Scanned;
 use ledger::Ledger;
@@ -40,14 +40,24 @@ fn at_most_7(n: usize) -> usize
     if n < 7 { n } else { 7 }
 }
 
+// The line of a case; where rows are told, behind it that of a spent nullifier's row.
+fn put_case(out: &mut [u8], at: usize, a: Answer, rows: bool) -> usize
+    ensures { λ r. ⌜ Wrote 72 (caseText rows a) (pen (now (out .entry)) at) (pen (now (out .exit)) r) ⌝ }
+{
+    if rows {
+        return text::put_answer_and_row(out, at, b"case", a);
+    }
+    text::put_answer_line(out, at, b"case", a)
+}
+
 // The answers of the first n cases.
-fn put_cases(out: &mut [u8], at: usize, answers: [Answer; 7], n: usize) -> usize
-    ensures { λ r. ⌜ Wrote 329 (caseLines (take n answers)) (pen (now (out .entry)) at) (pen (now (out .exit)) r) ⌝ }
+fn put_cases(out: &mut [u8], at: usize, answers: [Answer; 7], n: usize, rows: bool) -> usize
+    ensures { λ r. ⌜ Wrote 504 (caseLines rows (take n answers)) (pen (now (out .entry)) at) (pen (now (out .exit)) r) ⌝ }
 {
     let mut next = at;
     let most = at_most_7(n);
     for i in 0..most {
-        next = text::put_answer_line(out, next, b"case", answers[i]);
+        next = put_case(out, next, answers[i], rows);
     }
     next
 }
@@ -72,8 +82,8 @@ fn put_ledger(out: &mut [u8], at: usize, l: Ledger) -> usize
 }
 
 // A refused layout and a refused seal have one line, and nothing after it.
-fn put_scan(out: &mut [u8], s: Scanned) -> usize
-    ensures { λ r. ⌜ Wrote 465 (linesOf s) (pen (now (out .entry)) 0) (pen (now (out .exit)) r) ⌝ }
+fn put_scan(out: &mut [u8], s: Scanned, rows: bool) -> usize
+    ensures { λ r. ⌜ Wrote 640 (linesOf rows s) (pen (now (out .entry)) 0) (pen (now (out .exit)) r) ⌝ }
 {
     let layout = s.layout;
     if layout.is_accepted() {
@@ -81,7 +91,7 @@ fn put_scan(out: &mut [u8], s: Scanned) -> usize
         let sealed = text::put_answer_line(out, 0, b"seal", seal);
         if seal.is_accepted() {
             let answers = s.answers;
-            let judged = put_cases(out, sealed, answers, s.cases);
+            let judged = put_cases(out, sealed, answers, s.cases, rows);
             return put_ledger(out, judged, s.ledger);
         }
         return sealed;
@@ -90,16 +100,17 @@ fn put_scan(out: &mut [u8], s: Scanned) -> usize
 }
 
 // The lines of a scan, from the start of a buffer that always has room for them. What lies behind them
-// is as it was.
-pub fn render(s: Scanned, out: &mut [u8; 512]) -> usize
-    ensures { λ r. ⌜ Rendered (linesOf s) (now (out .entry)) (now (out .exit)) r ⌝ }
+// is as it was. Without rows they are those of document 01; with rows a case that is refused as spent has a
+// line more, the row in which its nullifier stands.
+pub fn render(s: Scanned, rows: bool, out: &mut [u8; 640]) -> usize
+    ensures { λ r. ⌜ Rendered (linesOf rows s) (now (out .entry)) (now (out .exit)) r ⌝ }
 {
-    put_scan(out, s)
+    put_scan(out, s, rows)
 }
 
 // A bag scanned on a fresh ledger, and the lines of that.
-pub fn scan_lines(bag: &[u8], out: &mut [u8; 512]) -> usize
-    ensures { λ r. ⌜ Rendered (linesOf (freshScan (now (bag .entry)))) (now (out .entry)) (now (out .exit)) r ⌝ }
+pub fn scan_lines(bag: &[u8], rows: bool, out: &mut [u8; 640]) -> usize
+    ensures { λ r. ⌜ Rendered (linesOf rows (freshScan (now (bag .entry)))) (now (out .entry)) (now (out .exit)) r ⌝ }
 {
-    render(scan_fresh(bag), out)
+    render(scan_fresh(bag), rows, out)
 }

@@ -81,15 +81,19 @@ answers-apart w a b e =
     let f : answerLine w a ++ [] ≡ answerLine w b ++ [] = ap (λ (l : List ℕ). l ++ []) e in
     ap₂ answer (numbers-alike w a b [] [] f) (places-alike w a b [] [] f)
 
--- AND WITH THE ROW'S LINE the whole answer is told, where only 8 carries a row
+-- and where only 8 carries a row, the same row
+rows-alike : (w : List ℕ) (a b : Answer) → ((a .number ≡ 8 → ⊥) → a .row .0 ≡ 0) → ((b .number ≡ 8 → ⊥) → b .row .0 ≡ 0) → a .number ≡ b .number
+    → answerAndRow w a ≡ answerAndRow w b → a .row .0 ≡ b .row .0
+rows-alike w a b ha hb n e =
+    by-test (eqb (a .number) 8)
+    (λ h. sym (row-read w a h) ∙ ap (rowIn w) e ∙ row-read w b (rw (sym n) h))
+    (λ h. ha (eqb-false (a .number) 8 h) ∙ sym (hb (λ q. eqb-false (a .number) 8 h (n ∙ q))))
+
+-- WITH THE ROW'S LINE the whole answer is told
 pub whole-apart : (w : List ℕ) (a b : Answer) → ((a .number ≡ 8 → ⊥) → a .row .0 ≡ 0) → ((b .number ≡ 8 → ⊥) → b .row .0 ≡ 0)
     → answerAndRow w a ≡ answerAndRow w b → a ≡ b
 unfolding answerAndRow
 whole-apart w a b ha hb e =
     let n : a .number ≡ b .number = numbers-alike w a b _ _ e in
     let p : a .place ≡ b .place = places-alike w a b _ _ e in
-    let r : a .row .0 ≡ b .row .0 =
-    by-test (eqb (a .number) 8)
-    (λ h. sym (row-read w a h) ∙ ap (rowIn w) e ∙ row-read w b (rw (sym n) h))
-    (λ h. ha (eqb-false (a .number) 8 h) ∙ sym (hb (λ q. eqb-false (a .number) 8 h (n ∙ q)))) in
-    ap₂ (λ (x y : ℕ). answerInRow x y (a .row .0)) n p ∙ ap (λ (k : ℕ). answerInRow (b .number) (b .place) k) r
+    ap₂ (λ (x y : ℕ). answerInRow x y (a .row .0)) n p ∙ ap (answerInRow (b .number) (b .place)) (rows-alike w a b ha hb n e)

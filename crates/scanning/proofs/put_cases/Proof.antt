@@ -4,22 +4,20 @@ use mathlib.Core.Path.{_≡_, refl, ap, _∙_}
 use mathlib.Core.List.{flatMap}
 use native.Mathlib.Omega.{arith}
 use lib.ListN.{length, take}
-use Rattle.text.specs.Words.{ascii}
-use Rattle.text.specs.Answers.{answerLine}
 use Rattle.text.specs.Pen.{pen, Wrote}
 use Rattle.text.proofs.PenLaws.{start, one-more, text-as}
-use Rattle.scanning.specs.Lines.{caseLines}
+use Rattle.scanning.specs.Lines.{caseText, caseLines}
 use Rattle.scanning.proofs.LineLaws.{take-min}
 use borrow.Author.Needs.{needs}
 use Rattle.scanning.proofs.put_cases.Statement.{statement}
 use Rattle.scanning.proofs.put_cases.Tie as tie
 
 abbrev Inv-loop : tie.InvT-loop
-Inv-loop out₀ at n answers next₀ most i₀ t9 out next i =
-    (i ≤ most) × ((most ≡ min n 7) × ((length answers ≡ 7) × ((length out ≡ length out₀) × Wrote (47 * i) (caseLines (take i answers)) (pen out₀ at) (pen out next))))
+Inv-loop out₀ at n rows answers next₀ most i₀ out next i =
+    (i ≤ most) × ((most ≡ min n 7) × ((length answers ≡ 7) × ((length out ≡ length out₀) × Wrote (72 * i) (caseLines rows (take i answers)) (pen out₀ at) (pen out next))))
 
 abbrev μ-loop : tie.MeasureT-loop
-μ-loop out₀ at n answers next₀ most i₀ t9 out next i = most - i
+μ-loop out₀ at n rows answers next₀ most i₀ out next i = most - i
 
 loop-holds : tie.Need-loop-holds Inv-loop μ-loop
 unfolding caseLines flatMap
@@ -29,12 +27,13 @@ loop-again : tie.Need-loop-again Inv-loop μ-loop
 unfolding caseLines
 loop-again c =
     let k = c .before .before in
-    let q = k .before .before .before .before .before in
+    let q = k .before .before .before .before in
     let v = q .loop .inv in
     let given = q .before .before .before .args .t3 in
     let i = q .loop .i in
+    let rows = q .before .before .before .args .rows in
     let h : i < length given = omega arith in
-    (search needs, (v .1 .0, (v .1 .1 .0, (k .put-answer-line .kept .0 ∙ v .1 .1 .1 .0, one-more (answerLine (ascii "case")) given i _ h (v .1 .1 .1 .1) (k .put-answer-line .ensures)))))
+    (search needs, (v .1 .0, (v .1 .1 .0, (k .put-case .kept .0 ∙ v .1 .1 .1 .0, one-more (caseText rows) given i _ h (v .1 .1 .1 .1) (k .put-case .ensures)))))
 
 returns : tie.Need-returns Inv-loop μ-loop
 returns c =
@@ -42,7 +41,7 @@ returns c =
     let v = q .loop .inv in
     let a = q .before .before .before .args in
     let e : q .loop .i ≡ min (a .n) 7 = omega arith in
-    text-as (omega arith) (ap (λ (i : ℕ). caseLines (take i (a .t3))) e ∙ ap caseLines (take-min (a .n) 7 (a .t3) (v .1 .1 .0))) (v .1 .1 .1 .1)
+    text-as (omega arith) (ap (λ (i : ℕ). caseLines (a .rows) (take i (a .t3))) e ∙ ap (caseLines (a .rows)) (take-min (a .n) 7 (a .t3) (v .1 .1 .0))) (v .1 .1 .1 .1)
 
 pub put-cases-spec : {M : Type 1} → statement M
 put-cases-spec =
@@ -52,7 +51,6 @@ put-cases-spec =
     μ-loop
     (λ c κs. search needs)
     loop-holds
-    (λ c. search needs)
     (λ c. search needs)
     (λ c. search needs)
     (λ c κs. search needs)

@@ -14,7 +14,7 @@ returns c =
     let j = e .before in
     let k = j .before .before .before in
     let i = k .before .before .before .before in
-    text-as (omega arith) (lines-all _ (sym (i .before .is-accepted .ensures) ∙ i .if1 .taken) (sym (j .is-accepted2 .ensures) ∙ e .if2 .taken))
+    text-as (omega arith) (lines-all _ _ (sym (i .before .is-accepted .ensures) ∙ i .if1 .taken) (sym (j .is-accepted2 .ensures) ∙ e .if2 .taken))
     (then (then (k .put-answer-line .ensures) (m .put-cases .ensures)) (l .put-ledger .ensures))
 
 returns-2 : tie.Need-returns-2
@@ -22,13 +22,13 @@ returns-2 c =
     let j = c .before in
     let k = j .before .before .before in
     let i = k .before .before .before .before in
-    text-as (omega arith) (lines-seal _ (sym (i .before .is-accepted .ensures) ∙ i .if1 .taken) (sym (j .is-accepted2 .ensures) ∙ c .if2 .left)) (k .put-answer-line .ensures)
+    text-as (omega arith) (lines-seal _ _ (sym (i .before .is-accepted .ensures) ∙ i .if1 .taken) (sym (j .is-accepted2 .ensures) ∙ c .if2 .left)) (k .put-answer-line .ensures)
 
 returns-3 : tie.Need-returns-3
 returns-3 c =
     let k = c .before .before in
     let i = k .before .before .before in
-    text-as (omega arith) (lines-bag _ (sym (i .before .is-accepted .ensures) ∙ i .if1 .left)) (k .put-answer-line2 .ensures)
+    text-as (omega arith) (lines-bag _ _ (sym (i .before .is-accepted .ensures) ∙ i .if1 .left)) (k .put-answer-line2 .ensures)
 
 pub put-scan-spec : {M : Type 1} → statement M
 put-scan-spec =

@@ -15,7 +15,7 @@ fn input_buffer() -> [u8; 65537]
 fn main() {
     let mut input = input_buffer();
     let n = io::read_full(STDIN_FILENO, &mut input);
-    let mut out = [0u8; 512];
-    let end = scanning::scan_lines(&input[..n], &mut out);
+    let mut out = [0u8; 640];
+    let end = scanning::scan_lines(&input[..n], false, &mut out);
     lines::print(&out[..end]);
 }

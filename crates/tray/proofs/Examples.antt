@@ -2,6 +2,7 @@
 -- Assumes nothing.
 use Prim.Native.Nat.{ℕ}
 use mathlib.Core.Path.{_≡_, refl}
+use mathlib.Core.Bool.{false}
 use mathlib.Core.List.{List, []}
 use lib.ListN.{take}
 use Rattle.text.specs.Words.{ascii, nameLine}
@@ -12,7 +13,7 @@ use Rattle.scanning.specs.Lines.{linesOf}
 use Rattle.tray.specs.declared.Next.the-variants.{Bag, Name, End, Broken}
 use Rattle.tray.specs.Tray.{linesFor}
 
-pub bag : (n : ℕ) (b : List ℕ) → linesFor (Bag n) b ≡ linesOf (freshScan (take n b))
+pub bag : (n : ℕ) (b : List ℕ) → linesFor (Bag n) b ≡ linesOf false (freshScan (take n b))
 unfolding linesFor
 bag n b = refl
 

@@ -83,7 +83,7 @@ fn goes_on(next: Next) -> bool
 }
 
 // The line of a name.
-fn put_name(name: &[u8], out: &mut [u8; 512]) -> usize
+fn put_name(name: &[u8], out: &mut [u8; 640]) -> usize
     requires { ⌜ length (now name) ≤ 100 ⌝ }
     ensures { λ r. ⌜ Rendered (nameLine (now (name .entry))) (now (out .entry)) (now (out .exit)) r ⌝ }
 {
@@ -91,19 +91,19 @@ fn put_name(name: &[u8], out: &mut [u8; 512]) -> usize
 }
 
 // The refusal of what is neither a whole bag nor a whole name.
-fn put_broken(out: &mut [u8; 512]) -> usize
+fn put_broken(out: &mut [u8; 640]) -> usize
     ensures { λ r. ⌜ Rendered (answerLine (ascii "tray") (answer 50 0)) (now (out .entry)) (now (out .exit)) r ⌝ }
 {
     text::put_answer_line(out, 0, b"tray", Answer::refused(50, 0))
 }
 
 // The lines for what stands next, from the start of a buffer that always has room for them.
-fn put_next(next: Next, buffer: &[u8], out: &mut [u8; 512]) -> usize
+fn put_next(next: Next, buffer: &[u8], out: &mut [u8; 640]) -> usize
     requires { ⌜ Whole next (now buffer) ⌝ }
     ensures { λ r. ⌜ Rendered (linesFor next (now (buffer .entry))) (now (out .entry)) (now (out .exit)) r ⌝ }
 {
     match next {
-        Next::Bag(n) => scanning::scan_lines(&buffer[..n], out),
+        Next::Bag(n) => scanning::scan_lines(&buffer[..n], false, out),
         Next::Name(n) => put_name(&buffer[..n], out),
         Next::End => 0,
         Next::Broken => put_broken(out),
@@ -113,7 +113,7 @@ fn put_next(next: Next, buffer: &[u8], out: &mut [u8; 512]) -> usize
 // One bag or name, and whether the run goes on after it.
 fn turn(buffer: &mut [u8]) -> bool {
     let next = read_next(buffer);
-    let mut out = [0u8; 512];
+    let mut out = [0u8; 640];
     let end = put_next(next, buffer, &mut out);
     lines::print(&out[..end]) && goes_on(next)
 }

@@ -14,7 +14,7 @@ use Rattle.octets.specs.Numbers.{little}
 use Rattle.octets.specs.Parts.{zeros, field}
 use Rattle.octets.proofs.PartLaws.{zeros-length, field-length}
 use Rattle.text.specs.Words.{ascii}
-use Rattle.text.specs.Answers.{answerLine}
+use Rattle.text.specs.Answers.{answerLine, answerAndRow}
 use Rattle.text.specs.Pen.{pen, Wrote}
 use Rattle.text.proofs.PenLaws.{text-as}
 use Rattle.refusals.specs.declared.Answer.{Answer}
@@ -101,11 +101,11 @@ plant-plays body t r p q x x′ n m e b a l s hn hm hb h hp hq ha hl w hs =
 -- C
 pub case-plays : (body t r p x x′ : List ℕ) (e : ℕ) (z : State) (a : Answered) (s : State) → LentWithin z t r
     → a ≡ judgedOf body (take (z .table) t) (take (z .roll) r) (z .ledger) → p ≡ tableAfterCase body (take (z .table) t) (take (z .roll) r) (z .ledger)
-    → length p ≡ length (take (z .table) t) → Wrote 47 (answerLine (ascii "case") (a .answer)) (pen x 0) (pen x′ e) → s ≡ runningOn (a .ledger) (z .table) (z .roll)
+    → length p ≡ length (take (z .table) t) → Wrote 72 (answerAndRow (ascii "case") (a .answer)) (pen x 0) (pen x′ e) → s ≡ runningOn (a .ledger) (z .table) (z .roll)
     → Plays (caseTurn body t r z) (p ++ drop (z .table) t) r x x′ (record { state = s; end = e })
 unfolding caseTurn caseOn judgedOf
 case-plays body t r p x x′ e z a s h ha hp hk w hs =
-    let v : turnOf (runningOn (a .ledger) (z .table) (z .roll)) (p ++ drop (z .table) t) r (answerLine (ascii "case") (a .answer)) ≡ caseTurn body t r z = rw (ha, hp) in
+    let v : turnOf (runningOn (a .ledger) (z .table) (z .roll)) (p ++ drop (z .table) t) r (answerAndRow (ascii "case") (a .answer)) ≡ caseTurn body t r z = rw (ha, hp) in
     plays-as v (plays (omega arith) hs (record { table = still (z .table) p t (hk ∙ length-take-le (z .table) t (h .table)); roll = h .roll }) w)
 
 -- F and B: a call that changes the roll alone. It left q in the lent part, and u is the turn that it makes

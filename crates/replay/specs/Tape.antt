@@ -11,7 +11,7 @@ use lib.ListN.{length, take, drop, getD}
 use Rattle.octets.specs.Numbers.{little}
 use Rattle.octets.specs.Parts.{zeros, field}
 use Rattle.text.specs.Words.{ascii, nameLine}
-use Rattle.text.specs.Answers.{answerLine}
+use Rattle.text.specs.Answers.{answerLine, answerAndRow}
 use Rattle.text.specs.Pen.{pen, Wrote}
 use Rattle.refusals.specs.Rules.{answer, accepted, first}
 use Rattle.ledger.specs.declared.Ledger.{Ledger}
@@ -81,11 +81,11 @@ plantOn n m body t r =
 unfoldable pub plantTurn : List ℕ → List ℕ → List ℕ → Turn
 plantTurn body t r = lends (λ n m. eqb (length body) (996 + n + m)) (λ n m. plantOn n m body t r) (little (field 988 4 body)) (little (field 992 4 body)) t r
 
--- C JUDGES a case, which is the body
+-- C JUDGES a case, which is the body; behind the line of one that is refused as spent stands that of the row
 unfoldable pub caseOn : ℕ → ℕ → Ledger → List ℕ → List ℕ → List ℕ → Turn
 caseOn n m l body t r =
     turnOf (runningOn (ledgerAfterCase body (take n t) (take m r) l) n m) (tableAfterCase body (take n t) (take m r) l ++ drop n t) r
-    (answerLine (ascii "case") (answerOf body (take n t) (take m r) l))
+    (answerAndRow (ascii "case") (answerOf body (take n t) (take m r) l))
 
 unfoldable pub caseTurn : List ℕ → List ℕ → List ℕ → State → Turn
 caseTurn body t r s = caseOn (s .table) (s .roll) (s .ledger) body t r

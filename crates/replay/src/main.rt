@@ -295,7 +295,7 @@ fn run_case(body: &[u8], table: &mut [u8], roll: &[u8], state: State, out: &mut 
     let n = state.table;
     let m = state.roll;
     let a = judge::judge(body, &mut table[..n], &roll[..m], state.ledger);
-    let end = text::put_answer_line(out, 0, b"case", a.answer);
+    let end = text::put_answer_and_row(out, 0, b"case", a.answer);
     let state = going_on(a.ledger, n, m);
     Ran { state, end }
 }

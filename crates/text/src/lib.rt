@@ -121,13 +121,20 @@ pub fn put_answer_line(out: &mut [u8], at: usize, word: &[u8], a: Answer) -> usi
     put(out, next, b"\n")
 }
 
+// The number of the row that an answer carries.
+fn row_number(a: Answer) -> u64
+    ensures { λ r. ⌜ r ≡ a .row .0 ⌝ }
+{
+    let row = a.row;
+    row.index() as u64
+}
+
 // The line of the row in which a nullifier that is refused as spent stands; of any other answer nothing.
 fn put_spent_row(out: &mut [u8], at: usize, a: Answer) -> usize
     ensures { λ r. ⌜ Wrote 25 (spentRowLine a) (pen (now (out .entry)) at) (pen (now (out .exit)) r) ⌝ }
 {
     if a.number == 8 {
-        let row = a.row;
-        let told = put_count(out, at, b"row ", row.index() as u64);
+        let told = put_count(out, at, b"row ", row_number(a));
         return put(out, told, b"\n");
     }
     at

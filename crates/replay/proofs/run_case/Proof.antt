@@ -10,7 +10,7 @@ returns c =
     let w = c .before .before .before in
     let j = w .before .before .before .before .before in
     let s = j .before .before .before .before .before .before .before in
-    case-plays _ _ _ _ _ _ _ _ _ _ (s .pre) (j .judge .ensures .0) (j .judge .ensures .1) (j .judge .kept .1 .0) (w .put-answer-and-row .ensures) (c .going-on .ensures)
+    case-plays _ _ _ _ _ _ _ _ _ _ (s .pre) (j .judge .ensures .0) (j .judge .ensures .1) (j .judge .kept .1 .0) (search needs) (c .going-on .ensures)
 
 slice-aggregate-judge : tie.Need-slice-aggregate-judge
 slice-aggregate-judge c =

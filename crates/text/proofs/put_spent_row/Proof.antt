@@ -1,3 +1,4 @@
+use mathlib.Core.Path.{_≡_}
 use native.Mathlib.Omega.{arith}
 use borrow.Author.Tests.{ne-eqb}
 use Rattle.text.specs.Answers.{spentRowLine}
@@ -12,8 +13,9 @@ returns c =
     let k = c .before .before in
     let w = k .before .before .before .before .before in
     let i = w .before in
-    let h = i .before .before .before .before .if1 .taken in
-    text-as (omega arith) (rw (h, i .index .ensures)) (then (w .put-count .ensures) (k .put .ensures))
+    let t = i .before .before .before in
+    let h : t .before .before .before .args .a .number ≡ 8 = omega (arith, t .if1 .taken) in
+    text-as (omega arith) (rw (h, i .row-number .ensures)) (then (w .put-count .ensures) (k .put .ensures))
 
 returns-2 : tie.Need-returns-2
 unfolding spentRowLine

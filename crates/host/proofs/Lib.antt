@@ -1,4 +1,5 @@
 mod Reports
+pub mod Codes
 pub mod DayLaws
 pub mod KeptLaws
 pub mod Shifts

@@ -32,16 +32,17 @@ tallyAnswer b a = cond (isLong 12 b) (cond (countedIn b a .ok) accepted tallyFul
 unfoldable pub tallyAfter : List ℕ → ℕ → List ℕ
 tallyAfter b a = cond (isAccepted (tallyAnswer b a)) (tallyBytes (countedIn b a .tally)) b
 
--- THE DAY LIST: a seal's number in four bytes, an answer's number in one and its place in one; as many rows as are whole
+-- THE DAY LIST: a seal's number in four bytes, an answer's number in one and its place in one; as many rows as are whole. The row of the nullifier table
+-- that an answer may carry is not kept
 unfoldable pub dayRow : ℕ → ℕ → List ℕ
 dayRow seal a = littleBytes 4 seal ++ littleBytes 2 a
 
 abbrev pub isOnList : ℕ → List ℕ → Bool
 isOnList i b = ltb i (length b / 6)
 
--- a number and a place, and nothing above them; the number 0 is a pass, and a pass has no place
+-- a number and a place, and nothing above them but with the number 8, which carries a row; the number 0 is a pass, and a pass has no place
 unfoldable pub isAnswer : ℕ → Bool
-isAnswer a = ltb a 65536 && (not (eqb (a % 256) 0) || eqb a 0)
+isAnswer a = (ltb a 65536 || eqb (a % 256) 8) && (not (eqb (a % 256) 0) || eqb a 0)
 
 unfoldable pub dayAnswer : ℕ → ℕ → List ℕ → Answer
 dayAnswer i a b = cond (isOnList i b) (cond (isAnswer a) accepted noAnswer) noSuchRow

@@ -17,11 +17,13 @@ use seal::Calibration;
 use seal::Read;
 use seal::Sealed;
 
-// An answer as one number: the refusal's own, and 256 times its place.
+// An answer as one number: the refusal's own, its place above that, and its row in the upper 16 bits.
 fn code(a: Answer) -> u32
     ensures { λ r. ⌜ r ≡ codeOf a ⌝ }
 {
-    (a.number as u32) + 256 * (a.place as u32)
+    let row = a.row;
+    let upper = (row.index() % 65536) as u32;
+    (a.number as u32) + 256 * (a.place as u32) + 65536 * upper
 }
 
 // Opens a fresh ledger. The table needs no byte of its own.
@@ -263,7 +265,7 @@ pub extern "C" fn snaldrek_proved_tally(tally: &mut [u8], answer: u32) -> u32
     code(Answer::accepted())
 }
 
-// A row of the day list: the seal's number, and an answer's number and place.
+// A row of the day list: the seal's number, and an answer's number and place. Its row is left out.
 fn day_row(seal: u32, answer: u32) -> [u8; 6]
     ensures { λ r. ⌜ r ≡ dayRow seal answer ⌝ }
 {
@@ -275,12 +277,13 @@ fn day_row(seal: u32, answer: u32) -> [u8; 6]
     bytes
 }
 
-// Whether a call can have returned it: a number and a place, and with the number 0 the place 0.
+// Whether a call can have returned it: a number and a place, with the number 8 also a row, and with the
+// number 0 nothing else.
 fn is_answer(answer: u32) -> bool
     ensures { λ r. ⌜ r ≡ isAnswer answer ⌝ }
 {
     if 65535 < answer {
-        return false;
+        return answer % 256 == 8;
     }
     if answer % 256 != 0 {
         return true;
@@ -288,7 +291,7 @@ fn is_answer(answer: u32) -> bool
     answer == 0
 }
 
-// Rewrites one row of the day list. A row holds a number and a place, so anything else is refused.
+// Rewrites one row of the day list by an answer that a call returned. Anything else is refused.
 #[no_mangle]
 pub extern "C" fn snaldrek_proved_day(list: &mut [u8], row: usize, seal: u32, answer: u32) -> u32
     ensures { λ r. ⌜ r ≡ codeOf (dayAnswer row answer (now (list .entry))) ⌝ }

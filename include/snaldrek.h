@@ -5,9 +5,10 @@
  * takes no memory of its own, makes no system call and never ends the program.
  *
  * ANSWERS. Every call returns one number. 0 is yes. Otherwise the low 8 bits are the number of the
- * refusal (enum snaldrek_number), the next 8 its place, and the rest is zero. docs/REFUSALS.md has
- * each number and place in plain words. A refusal changes no byte of any lent buffer; snaldrek_open
- * says where it makes one exception.
+ * refusal (enum snaldrek_number), the next 8 its place, and the upper 16 its row: with the number 8,
+ * the row of the nullifier table in which the spent nullifier stands, counted from 0; with every other
+ * number 0. docs/REFUSALS.md has each number and place in plain words. A refusal changes no byte of any
+ * lent buffer; snaldrek_open says where it makes one exception.
  *
  * MEMORY. All of it is the caller's, and is lent for the time of a call: the library keeps no pointer
  * and no state, so that the same bytes get the same answer at any time. A ledger is three buffers
@@ -90,7 +91,8 @@ enum snaldrek_number {
     SNALDREK_PUBLIC_VALUE_TOO_HIGH = 5, /* place 1: what enters the pool, 2: what leaves it */
     SNALDREK_ANCHOR_UNKNOWN = 6,        /* it is not on the roll */
     SNALDREK_NULLIFIERS_EQUAL = 7,      /* the case names one note twice */
-    SNALDREK_ALREADY_SPENT = 8,         /* place 1 or 2: which nullifier */
+    SNALDREK_ALREADY_SPENT = 8,         /* place 1 or 2: which nullifier; row: where it stands in the
+                                           table, from 0, as the table was when the case met it */
     SNALDREK_OUT_OF_RANGE = 9,          /* place 1 or 2: which old note; 3: phi */
     SNALDREK_PATH_WRONG = 10,           /* place 1 or 2: which old note */
     SNALDREK_NOT_BALANCED = 11,         /* what goes in is not what comes out, or is above 2^64 - 1 */
@@ -128,6 +130,7 @@ enum snaldrek_buffer {
 
 #define SNALDREK_NUMBER(answer) ((unsigned)((answer) & 0xffu))
 #define SNALDREK_PLACE(answer) ((unsigned)(((answer) >> 8) & 0xffu))
+#define SNALDREK_ROW(answer) ((unsigned)(((answer) >> 16) & 0xffffu))
 
 /* ---- A ledger ---- */
 
@@ -141,7 +144,8 @@ uint32_t snaldrek_open(uint8_t *ledger, size_t ledger_len, uint8_t *roll, size_t
 
 /* Judges one case. Accepted, its nullifiers are in the table, its commitments in the tree and its
    public values in the pool.
-   51 1: the ledger's length. Then 1 to 16, the first that applies. */
+   51 1: the ledger's length. Then 1 to 16, the first that applies; with 8, the spent nullifier stands at
+   table + SNALDREK_ROW_BYTES * SNALDREK_ROW(answer). */
 uint32_t snaldrek_judge(const uint8_t *file, size_t file_len, uint8_t *ledger, size_t ledger_len,
                         uint8_t *table, size_t table_len, const uint8_t *roll, size_t roll_len);
 
@@ -167,7 +171,8 @@ uint32_t snaldrek_seal(const uint8_t *body, size_t body_len, double gain, double
 
 /* Judges a whole bag: its layout, its seal, and then its cases in order, each on the ledger that the
    one before it left. A refused case does not stop the next, and is no refusal of the bag: the answer
-   is then 0, and the report has each case's own.
+   is then 0, and the report has each case's own. The row of an 8 there is that of the table as the case
+   met it: a later case's nullifiers may have moved it to a higher one since.
    51 1: the ledger's length. 51 3: the report's. 20: the layout is broken. 21 to 23: the seal. On
    any of them no case was judged, and the report is not written. */
 uint32_t snaldrek_bag(const uint8_t *bag, size_t bag_len, double gain, double offset,
@@ -181,10 +186,11 @@ uint32_t snaldrek_bag(const uint8_t *bag, size_t bag_len, double gain, double of
 uint32_t snaldrek_tally(uint8_t *tally, size_t tally_len, uint32_t answer);
 
 /* Writes row number `row` (from 0) of the day list: the seal's own number, and an answer as the calls
-   above return it. The list has list_len / SNALDREK_DAY_ROW_BYTES rows, and the others stay. Fill a new
-   list with bytes of 255: its rows then say SNALDREK_NOT_GIVEN, and none is taken for a pass.
-   53: there is no such row. 54: no call returns such an answer: it is above
-   65,535, or has the number 0 and a place. */
+   above return it, of which the list keeps number and place. The list has list_len /
+   SNALDREK_DAY_ROW_BYTES rows, and the others stay. Fill a new list with bytes of 255: its rows then say
+   SNALDREK_NOT_GIVEN, and none is taken for a pass.
+   53: there is no such row. 54: no call returns such an answer: it has the number 0 and is not 0, or it
+   is above 65,535, so that it has a row, and its number is not 8. */
 uint32_t snaldrek_day(uint8_t *list, size_t list_len, size_t row, uint32_t seal, uint32_t answer);
 
 /* ---- What the buffers say ---- */
@@ -227,7 +233,8 @@ static inline uint32_t snaldrek_tally_seen(const uint8_t *tally) { return snaldr
 static inline uint32_t snaldrek_tally_passed(const uint8_t *tally) { return snaldrek_read_32(tally + 4); }
 static inline uint32_t snaldrek_tally_refused(const uint8_t *tally) { return snaldrek_read_32(tally + 8); }
 
-/* A row of the day list: the seal's number in 4 bytes, the answer's number in one, its place in one. */
+/* A row of the day list: the seal's number in 4 bytes, the answer's number in one, its place in one. The
+   row of the table that an 8 had is not kept, so SNALDREK_ROW of an answer read here is always 0. */
 static inline uint32_t snaldrek_day_seal(const uint8_t *row) { return snaldrek_read_32(row); }
 static inline uint32_t snaldrek_day_answer(const uint8_t *row) { return (uint32_t)row[4] | (uint32_t)row[5] << 8; }
 

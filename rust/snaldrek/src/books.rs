@@ -3,7 +3,7 @@
 use crate::calls;
 use crate::refusal::{Answer, Refusal};
 #[cfg(feature = "alloc")]
-pub use day_list::{DayList, DayRow};
+pub use day_list::{DayAnswer, DayList, DayRow};
 
 const TALLY_BYTES: usize = 12;
 
@@ -61,7 +61,7 @@ mod day_list {
     use core::fmt;
 
     use crate::calls;
-    use crate::refusal::{Answer, Refusal};
+    use crate::refusal::{write_words, Answer, Refusal};
 
     const DAY_ROW_BYTES: usize = 6;
     const NOT_GIVEN: u8 = 255;
@@ -72,7 +72,55 @@ mod day_list {
         /// The number of the seal.
         pub seal: u32,
         /// What was answered.
-        pub answer: Answer,
+        pub answer: DayAnswer,
+    }
+
+    /// What the day list keeps of an answer: its number and its place. It is no
+    /// [`Answer`], since the list does not keep the row of a spent nullifier,
+    /// and any row that was put in its place would be a wrong one.
+    #[derive(Clone, Copy, Debug, PartialEq, Eq)]
+    pub enum DayAnswer {
+        /// The row was not entered yet.
+        NotGiven,
+        /// It was a yes.
+        Passed,
+        /// It was a refusal.
+        Refused {
+            /// The number, as in docs/REFUSALS.md.
+            number: u8,
+            /// The place, as in docs/REFUSALS.md.
+            place: u8,
+        },
+    }
+
+    impl DayAnswer {
+        fn read(number: u8, place: u8) -> DayAnswer {
+            match (number, place) {
+                (NOT_GIVEN, _) => DayAnswer::NotGiven,
+                (0, 0) => DayAnswer::Passed,
+                (number, place) => DayAnswer::Refused { number, place },
+            }
+        }
+    }
+
+    /// What the list keeps of it.
+    impl From<Answer> for DayAnswer {
+        fn from(answer: Answer) -> DayAnswer {
+            match answer {
+                Ok(()) => DayAnswer::Passed,
+                Err(refusal) => DayAnswer::read(refusal.number(), refusal.place()),
+            }
+        }
+    }
+
+    impl fmt::Display for DayAnswer {
+        fn fmt(&self, out: &mut fmt::Formatter<'_>) -> fmt::Result {
+            match *self {
+                DayAnswer::NotGiven => write_words(out, NOT_GIVEN, 0),
+                DayAnswer::Passed => out.write_str("accepted"),
+                DayAnswer::Refused { number, place } => write_words(out, number, place),
+            }
+        }
     }
 
     /// The day list, with as many rows as it was made with.
@@ -83,7 +131,7 @@ mod day_list {
 
     impl DayList {
         /// A list of this many rows, none of them entered: each says
-        /// [`Refusal::NotGiven`].
+        /// [`DayAnswer::NotGiven`].
         pub fn with_rows(rows: u32) -> DayList {
             DayList {
                 bytes: vec![NOT_GIVEN; rows as usize * DAY_ROW_BYTES],
@@ -105,9 +153,10 @@ mod day_list {
             self.bytes.len() / DAY_ROW_BYTES
         }
 
-        /// Writes a row, counted from 0. Refused where there is no such row, and
-        /// where an answer without a name does not fit into one, or would be
-        /// read as a pass there.
+        /// Writes a row, counted from 0: the seal's number, and of the answer its
+        /// number and its place. Refused where there is no such row, and where an
+        /// answer without a name has a row and is no 8, or would be read as a pass
+        /// there.
         pub fn enter(&mut self, row: usize, seal: u32, answer: Answer) -> Answer {
             Refusal::answer(calls::day(
                 &mut self.bytes,
@@ -122,10 +171,7 @@ mod day_list {
             let bytes = self.bytes.chunks_exact(DAY_ROW_BYTES).nth(row)?;
             Some(DayRow {
                 seal: u32::from_le_bytes([bytes[0], bytes[1], bytes[2], bytes[3]]),
-                answer: match bytes[4] {
-                    NOT_GIVEN => Err(Refusal::NotGiven),
-                    number => Refusal::answer(u32::from(number) | u32::from(bytes[5]) << 8),
-                },
+                answer: DayAnswer::read(bytes[4], bytes[5]),
             })
         }
     }

@@ -1,5 +1,6 @@
 //! The calls of `include/snaldrek.h` over slices, each answer as its code:
-//! the number in the low 8 bits, the place in the next 8, 0 for yes.
+//! the number in the low 8 bits, the place in the next 8, the row in the upper
+//! 16, 0 for yes.
 //!
 //! The only module with `unsafe` in it. Nothing checks the declarations below
 //! against the library but the tests, so they stand as the header has them.

@@ -1,4 +1,4 @@
-//! What the library refuses, by number and place.
+//! What the library refuses, by number, place and row.
 
 use core::error::Error;
 use core::fmt;
@@ -43,7 +43,24 @@ pub enum Buffer {
     Digest,
 }
 
-/// Why something was refused: a variant for each number, with its place.
+/// A row of the nullifier table, counted from 0.
+#[derive(Clone, Copy, Debug, PartialEq, Eq, PartialOrd, Ord, Hash)]
+pub struct TableRow(u16);
+
+impl TableRow {
+    /// The row of this number.
+    pub const fn new(number: u16) -> TableRow {
+        TableRow(number)
+    }
+
+    /// Its number: the row's bytes begin at `ROW_BYTES` times it in the table.
+    pub fn index(self) -> usize {
+        usize::from(self.0)
+    }
+}
+
+/// Why something was refused: a variant for each number, with its place, and
+/// with its row where it has one.
 #[derive(Clone, Copy, Debug, PartialEq, Eq, PartialOrd, Ord, Hash)]
 #[non_exhaustive]
 pub enum Refusal {
@@ -61,8 +78,9 @@ pub enum Refusal {
     AnchorUnknown,
     /// 7.
     NullifiersEqual,
-    /// 8.
-    AlreadySpent(Pair),
+    /// 8: which nullifier, and the row in which it stands in the table, as the
+    /// table was when the case met it.
+    AlreadySpent(Pair, TableRow),
     /// 9.
     OutOfRange(Bound),
     /// 10.
@@ -121,12 +139,12 @@ impl Refusal {
     /// The refusal of a code as the library returns it; `None` for 0, which is
     /// a yes.
     pub fn from_code(code: u32) -> Option<Refusal> {
-        match (code & 0xff, code >> 8) {
-            (0, 0) => None,
-            (number, place) => {
-                Some(known(number, place).unwrap_or(Refusal::Unknown(Unnamed(code))))
-            }
+        if code == 0 {
+            return None;
         }
+        let [number, place, row @ ..] = code.to_le_bytes();
+        let named = known(number, place, u16::from_le_bytes(row));
+        Some(named.unwrap_or(Refusal::Unknown(Unnamed(code))))
     }
 
     /// The answer of a code as the library returns it.
@@ -142,7 +160,10 @@ impl Refusal {
         match answer {
             Ok(()) => 0,
             Err(Refusal::Unknown(unnamed)) => unnamed.code(),
-            Err(refusal) => u32::from(refusal.number()) | u32::from(refusal.place()) << 8,
+            Err(refusal) => {
+                let row = refusal.row().map_or(0, |row| row.0);
+                u32::from(refusal.number()) | u32::from(refusal.place()) << 8 | u32::from(row) << 16
+            }
         }
     }
 
@@ -156,7 +177,7 @@ impl Refusal {
             Refusal::PublicValueTooHigh(_) => 5,
             Refusal::AnchorUnknown => 6,
             Refusal::NullifiersEqual => 7,
-            Refusal::AlreadySpent(_) => 8,
+            Refusal::AlreadySpent(..) => 8,
             Refusal::OutOfRange(_) => 9,
             Refusal::PathWrong(_) => 10,
             Refusal::NotBalanced => 11,
@@ -182,7 +203,7 @@ impl Refusal {
     pub fn place(self) -> u8 {
         match self {
             Refusal::PublicValueTooHigh(which)
-            | Refusal::AlreadySpent(which)
+            | Refusal::AlreadySpent(which, _)
             | Refusal::OutOfRange(Bound::OldNote(which))
             | Refusal::PathWrong(which)
             | Refusal::NullifierWrong(which)
@@ -196,17 +217,27 @@ impl Refusal {
             _ => 0,
         }
     }
-}
 
-/// The refusal of this number and place, if there is one.
-fn known(number: u32, place: u32) -> Option<Refusal> {
-    match place {
-        0 => without_place(number),
-        _ => with_place(number, place),
+    /// The row of the nullifier table, of a nullifier that is spent.
+    pub fn row(self) -> Option<TableRow> {
+        match self {
+            Refusal::AlreadySpent(_, row) => Some(row),
+            _ => None,
+        }
     }
 }
 
-fn without_place(number: u32) -> Option<Refusal> {
+/// The refusal of this number, place and row, if there is one. Only 8 has a row.
+fn known(number: u8, place: u8, row: u16) -> Option<Refusal> {
+    match (number, place, row) {
+        (8, _, _) => Some(Refusal::AlreadySpent(Pair::at(place)?, TableRow(row))),
+        (_, 0, 0) => without_place(number),
+        (_, _, 0) => with_place(number, place),
+        _ => None,
+    }
+}
+
+fn without_place(number: u8) -> Option<Refusal> {
     Some(match number {
         1 => Refusal::WrongLength,
         2 => Refusal::LedgerDamaged,
@@ -227,7 +258,7 @@ fn without_place(number: u32) -> Option<Refusal> {
     })
 }
 
-fn with_place(number: u32, place: u32) -> Option<Refusal> {
+fn with_place(number: u8, place: u8) -> Option<Refusal> {
     match (number, place) {
         (9, 3) => return Some(Refusal::OutOfRange(Bound::Phi)),
         (51, _) => return Buffer::at(place).map(Refusal::WrongBuffer),
@@ -236,7 +267,6 @@ fn with_place(number: u32, place: u32) -> Option<Refusal> {
     let which = Pair::at(place)?;
     Some(match number {
         5 => Refusal::PublicValueTooHigh(which),
-        8 => Refusal::AlreadySpent(which),
         9 => Refusal::OutOfRange(Bound::OldNote(which)),
         10 => Refusal::PathWrong(which),
         12 => Refusal::NullifierWrong(which),
@@ -249,7 +279,7 @@ fn with_place(number: u32, place: u32) -> Option<Refusal> {
 }
 
 impl Pair {
-    fn at(place: u32) -> Option<Pair> {
+    fn at(place: u8) -> Option<Pair> {
         match place {
             1 => Some(Pair::First),
             2 => Some(Pair::Second),
@@ -266,7 +296,7 @@ impl Pair {
 }
 
 impl Buffer {
-    fn at(place: u32) -> Option<Buffer> {
+    fn at(place: u8) -> Option<Buffer> {
         match place {
             1 => Some(Buffer::Ledger),
             2 => Some(Buffer::Root),
@@ -336,16 +366,23 @@ const WORDS: [(u8, u8, &str); 40] = [
     (255, 0, "no answer was given"),
 ];
 
+/// The words of a number and a place.
+pub(crate) fn write_words(out: &mut fmt::Formatter<'_>, number: u8, place: u8) -> fmt::Result {
+    match WORDS.iter().find(|row| (row.0, row.1) == (number, place)) {
+        Some((_, _, words)) => out.write_str(words),
+        None => write!(out, "refused with {number} {place}"),
+    }
+}
+
 impl fmt::Display for Refusal {
     fn fmt(&self, out: &mut fmt::Formatter<'_>) -> fmt::Result {
-        let (number, place) = (self.number(), self.place());
-        let row = WORDS.iter().find(|row| (row.0, row.1) == (number, place));
-        match (self, row) {
-            (Refusal::Unknown(Unnamed(code)), _) => {
-                write!(out, "an answer without a name, {code:#x}")
-            }
-            (_, Some((_, _, words))) => out.write_str(words),
-            (_, None) => write!(out, "refused with {number} {place}"),
+        if let Refusal::Unknown(Unnamed(code)) = self {
+            return write!(out, "an answer without a name, {code:#x}");
+        }
+        write_words(out, self.number(), self.place())?;
+        match self.row() {
+            Some(TableRow(row)) => write!(out, ": it stands in row {row} of the table"),
+            None => Ok(()),
         }
     }
 }

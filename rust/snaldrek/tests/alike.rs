@@ -4,7 +4,7 @@
 
 mod common;
 
-use common::{assert_alike, entries, named, plain, same_ledger};
+use common::{assert_alike, assert_answer, entries, same_ledger};
 use second::judge::judge;
 use second::ledger::Ledger as PlainLedger;
 use second::maker::make_tape;
@@ -68,8 +68,7 @@ impl Pair {
         let before = self.ours.clone();
         let expected = judge(&mut self.theirs, file);
         let answer = self.ours.judge(file);
-        assert_eq!(plain(answer), expected, "a case");
-        assert_eq!(answer, named(expected), "a case");
+        assert_answer(answer, expected, "a case");
         assert!(
             answer.is_ok() || self.ours == before,
             "a refusal changes no byte"
@@ -85,11 +84,8 @@ impl Pair {
         }
         self.random.flip_bit(&mut file);
         let (mut ours, mut theirs) = (self.ours.clone(), self.theirs.clone());
-        assert_eq!(
-            plain(ours.judge(&file)),
-            judge(&mut theirs, &file),
-            "a damaged case"
-        );
+        let expected = judge(&mut theirs, &file);
+        assert_answer(ours.judge(&file), expected, "a damaged case");
         assert_alike(&ours, &theirs, "after a damaged case");
         self.cases += 1;
     }
@@ -97,7 +93,7 @@ impl Pair {
     fn close(&mut self) {
         let before = self.ours.clone();
         let answer = self.ours.close();
-        assert_eq!(plain(answer), self.theirs.close_block(), "closing a block");
+        assert_answer(answer, self.theirs.close_block(), "closing a block");
         assert!(
             answer.is_ok() || self.ours == before,
             "a refusal changes no byte"
@@ -132,11 +128,8 @@ fn play_seal(body: &[u8]) {
     match (ours, theirs) {
         (Ok(pull), Ok(expected)) => assert_eq!(pull.to_bits(), expected.to_bits(), "the pull"),
         (ours, theirs) => {
-            assert_eq!(
-                plain(ours.map(|_| ())),
-                theirs.expect_err("a refusal"),
-                "a seal"
-            );
+            let expected = theirs.expect_err("a refusal");
+            assert_answer(ours.map(|_| ()), expected, "a seal");
             let mut pull = 0.25;
             calls::seal(seal, gain, offset, &mut pull);
             assert_eq!(pull, 0.25, "a refusal hands out no pull");
@@ -198,8 +191,8 @@ fn noise_is_refused_alike() {
         let mut ours = same_ledger(&theirs);
         let mut file = vec![0; *random.pick(&[0, 4_209, 4_210, 4_211])];
         random.fill(&mut file);
-        assert_eq!(plain(ours.judge(&file)), judge(&mut theirs, &file));
-        assert_eq!(plain(ours.close()), theirs.close_block());
+        assert_answer(ours.judge(&file), judge(&mut theirs, &file), "noise");
+        assert_answer(ours.close(), theirs.close_block(), "noise");
         assert_alike(&ours, &theirs, "after noise");
     }
 }

@@ -3,7 +3,7 @@
 
 mod common;
 
-use common::{assert_alike, entries, plain, same_ledger};
+use common::{assert_alike, assert_answer, entries, same_ledger};
 use second::answer::Answer as Plain;
 use second::bag::{read_bag, write_bag};
 use second::judge::judge;
@@ -38,14 +38,13 @@ fn scan_both(ledger: &PlainLedger, bag: &[u8], by: Calibration) -> Plain {
     let (mut ours, mut theirs) = (same_ledger(ledger), ledger.clone());
     let (expected, cases) = plain_scan(&mut theirs, bag, by);
     match ours.scan_bag(bag, by) {
-        Err(refusal) => assert_eq!(plain(Err(refusal)), expected, "a bag"),
+        Err(refusal) => assert_answer(Err(refusal), expected, "a bag"),
         Ok(answers) => {
             assert_eq!(expected, Plain::PASSED, "a bag");
-            assert_eq!(
-                answers.into_iter().map(plain).collect::<Vec<_>>(),
-                cases,
-                "its cases"
-            );
+            assert_eq!(answers.len(), cases.len(), "its cases");
+            for (answer, case) in answers.into_iter().zip(&cases) {
+                assert_answer(answer, *case, "a case of a bag");
+            }
         }
     }
     assert_alike(&ours, &theirs, "after a bag");
@@ -74,15 +73,10 @@ fn hold_report(
     assert_eq!(code, common::code(expected));
     let mut written = [0; 32];
     written[0] = cases.len() as u8;
-    for index in 0..7 {
+    for (index, bytes) in written[4..].chunks_exact_mut(4).enumerate() {
         // An answer that was not given must not look like a pass.
-        let not_given = Plain {
-            number: 255,
-            place: 0,
-        };
-        let case = cases.get(index).unwrap_or(&not_given);
-        written[4 + 4 * index] = case.number;
-        written[5 + 4 * index] = case.place;
+        let code = cases.get(index).map_or(255, |case| common::code(*case));
+        bytes.copy_from_slice(&code.to_le_bytes());
     }
     assert_eq!(
         report,

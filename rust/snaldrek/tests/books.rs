@@ -1,6 +1,11 @@
 //! The tally and the day list against plain counts.
 
-use snaldrek::{calls, Answer, DayList, DayRow, Pair, Refusal, Tally};
+use snaldrek::{calls, Answer, DayAnswer, DayList, DayRow, Pair, Refusal, TableRow, Tally};
+
+/// The second nullifier spent, in this row of the table.
+fn spent_in(row: u16) -> Answer {
+    Err(Refusal::AlreadySpent(Pair::Second, TableRow::new(row)))
+}
 
 /// A tally as three numbers.
 fn counts(tally: &Tally) -> [u32; 3] {
@@ -27,11 +32,7 @@ fn counted([seen, passed, refused]: [u32; 3], answer: Answer) -> Option<[u32; 3]
 #[test]
 fn a_tally_counts_as_the_rules_say() {
     let near = [0, 1, 7, u32::MAX - 1, u32::MAX];
-    let answers = [
-        Ok(()),
-        Err(Refusal::AlreadySpent(Pair::First)),
-        Err(Refusal::NoFreeRow),
-    ];
+    let answers = [Ok(()), spent_in(7), Err(Refusal::NoFreeRow)];
     for turn in 0..5 * 5 * 5 * 3 {
         let before = [near[turn % 5], near[turn / 5 % 5], near[turn / 25 % 5]];
         let answer = answers[turn / 125];
@@ -70,12 +71,14 @@ fn entering_a_row_changes_that_row_alone() {
         Ok(()),
         Err(Refusal::RhoWrong(Pair::Second)),
         Err(Refusal::LedgerDamaged),
+        spent_in(0),
+        spent_in(65_535),
     ];
     let mut list = DayList::with_rows(40);
     let mut rows = vec![
         DayRow {
             seal: u32::MAX,
-            answer: Err(Refusal::NotGiven)
+            answer: DayAnswer::NotGiven
         };
         40
     ];
@@ -83,7 +86,7 @@ fn entering_a_row_changes_that_row_alone() {
         // 13 and 44 have no divisor in common, so every row has its turn, with each answer.
         let row = 13 * turn % 44;
         let seal = (turn as u32).wrapping_mul(2_654_435_761);
-        let answer = answers[turn % 3];
+        let answer = answers[turn % 5];
         let expected = if row < 40 {
             Ok(())
         } else {
@@ -91,6 +94,7 @@ fn entering_a_row_changes_that_row_alone() {
         };
         assert_eq!(list.enter(row, seal, answer), expected);
         if row < 40 {
+            let answer = answer.into();
             rows[row] = DayRow { seal, answer };
         }
         let found: Vec<DayRow> = (0..list.rows()).filter_map(|row| list.row(row)).collect();
@@ -102,7 +106,7 @@ fn entering_a_row_changes_that_row_alone() {
 #[test]
 fn what_is_no_answer_is_not_entered() {
     let mut bytes = vec![9; 12];
-    for answer in [65_536, 65_536 + 8, 1 << 24, 1 << 31, u32::MAX] {
+    for answer in [65_536, 65_536 + 9, 1 << 24, 1 << 31, u32::MAX] {
         assert_eq!(calls::day(&mut bytes, 1, 1, answer), 54);
         assert_eq!(
             calls::day(&mut bytes, 2, 1, answer),
@@ -115,17 +119,60 @@ fn what_is_no_answer_is_not_entered() {
     assert_eq!(bytes[6..], [1, 0, 0, 0, 255, 255]);
 }
 
+/// An answer with a row is one with the number 8, and is entered without it.
+#[test]
+fn a_row_is_taken_with_8_alone_and_is_not_kept() {
+    for number in 0..=255_u8 {
+        for (place, row) in [(0, 1), (1, 1), (2, 255), (1, 256), (2, 2_047), (2, 65_535)] {
+            let mut bytes = [9; 6];
+            let code = u32::from(number) + 256 * u32::from(place) + 65_536 * row;
+            let answer = calls::day(&mut bytes, 0, 1, code);
+            let (expected, after) = match number {
+                8 => (0, [1, 0, 0, 0, 8, place]),
+                _ => (54, [9; 6]),
+            };
+            assert_eq!((answer, bytes), (expected, after), "{number} {place} {row}");
+        }
+    }
+}
+
+/// The number and the place of a row, and the words of both.
+#[test]
+fn a_row_says_number_and_place() {
+    let mut list = DayList::with_rows(3);
+    assert_eq!(list.enter(0, 1, spent_in(3)), Ok(()));
+    assert_eq!(list.enter(1, 1, Ok(())), Ok(()));
+    let said = [0, 1, 2].map(|row| list.row(row).expect("a row").answer);
+    let (number, place) = (8, 2);
+    assert_eq!(
+        said,
+        [
+            DayAnswer::Refused { number, place },
+            DayAnswer::Passed,
+            DayAnswer::NotGiven
+        ]
+    );
+    assert_eq!(
+        said.map(|answer| answer.to_string()),
+        [
+            "the second nullifier is already spent",
+            "accepted",
+            "no answer was given"
+        ]
+    );
+}
+
 #[test]
 fn an_unnamed_answer_is_a_refusal_in_both_books() {
-    for code in [0x2a, 0x100, 0xff01, 1 << 16, u32::MAX] {
+    for code in [0x2a, 0x100, 0xff01, 1 << 16, 0x1_0109, 0x1_0308, u32::MAX] {
         let answer = Refusal::answer(code);
         assert!(matches!(answer, Err(Refusal::Unknown(_))), "{code:#x}");
         let (mut tally, mut list) = (Tally::new(), DayList::with_rows(1));
         assert_eq!(tally.count(answer), Ok(()));
         assert_eq!(counts(&tally), [1, 0, 1]);
         let (entered, found) = match code {
-            0x2a | 0xff01 => (Ok(()), answer),
-            _ => (Err(Refusal::NoAnswer), Err(Refusal::NotGiven)),
+            0x2a | 0xff01 | 0x1_0308 => (Ok(()), answer.into()),
+            _ => (Err(Refusal::NoAnswer), DayAnswer::NotGiven),
         };
         assert_eq!(list.enter(0, 7, answer), entered);
         assert_eq!(list.row(0).map(|row| row.answer), Some(found));
@@ -154,10 +201,7 @@ fn rows_past_any_list_are_refused() {
         assert!(bytes.iter().all(|byte| *byte == 9));
     }
     let mut list = DayList::from_bytes(vec![9; 11]);
-    assert_eq!(
-        list.enter(0, 0x0403_0201, Err(Refusal::AlreadySpent(Pair::Second))),
-        Ok(())
-    );
+    assert_eq!(list.enter(0, 0x0403_0201, spent_in(0x0605)), Ok(()));
     assert_eq!(
         list.as_bytes(),
         [1, 2, 3, 4, 8, 2, 9, 9, 9, 9, 9],

@@ -1,7 +1,7 @@
 //! Every row of the table of refusals has its variant, and the variant its
 //! words.
 
-use snaldrek::Refusal;
+use snaldrek::{Pair, Refusal, TableRow};
 
 /// The rows of docs/REFUSALS.md: number, place, words. Only programs play
 /// tapes, so 50 is left out.
@@ -56,12 +56,37 @@ fn each_row_has_its_variant_and_words() {
 }
 
 #[test]
+fn a_spent_nullifier_tells_its_row() {
+    for row in [0, 1, 3, 255, 256, 2_047, 65_535] {
+        for (which, place, words) in [(Pair::First, 1, "first"), (Pair::Second, 2, "second")] {
+            let refusal = Refusal::AlreadySpent(which, TableRow::new(row));
+            let code = 8 + 256 * u32::from(place) + 65_536 * u32::from(row);
+            assert_eq!(Refusal::from_code(code), Some(refusal));
+            assert_eq!(Refusal::code_of(Err(refusal)), code);
+            assert_eq!((refusal.number(), refusal.place()), (8, place));
+            assert_eq!(refusal.row().map(TableRow::index), Some(row.into()));
+            assert_eq!(
+                refusal.to_string(),
+                format!(
+                    "the {words} nullifier is already spent: it stands in row {row} of the table"
+                )
+            );
+        }
+    }
+}
+
+/// No row of docs/REFUSALS.md, or a row of the nullifier table with another
+/// number than 8.
+#[test]
 fn what_has_no_row_is_still_a_refusal() {
     let known: Vec<u32> = rows()
         .iter()
         .map(|(number, place, _)| number + 256 * place)
         .collect();
-    for code in (1..0x1000).chain([1 << 16, 1 << 24 | 8, u32::MAX]) {
+    let others = known.iter().filter(|code| *code % 256 != 8);
+    let with_a_row = others.map(|code| code + 65_536);
+    let more = [1 << 16, 1 << 24 | 8, 1 << 16 | 0x308, u32::MAX];
+    for code in (1..0x1_0000).chain(more).chain(with_a_row) {
         let refusal = Refusal::from_code(code).expect("only 0 is a yes");
         assert_eq!(
             matches!(refusal, Refusal::Unknown(_)),
@@ -69,6 +94,7 @@ fn what_has_no_row_is_still_a_refusal() {
             "{code:#x}"
         );
         assert_eq!(Refusal::code_of(Err(refusal)), code);
+        assert_eq!(refusal.row().is_some(), matches!(code, 0x108 | 0x208));
     }
     assert_eq!(Refusal::answer(0), Ok(()));
 }

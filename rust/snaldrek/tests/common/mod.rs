@@ -6,22 +6,21 @@ use second::ledger::Ledger as PlainLedger;
 use second::tape::plant_body;
 use snaldrek::{Answer, Ledger, Refusal, LEDGER_BYTES};
 
-/// An answer of the wrapper as a number and a place.
-pub fn plain(answer: Answer) -> Plain {
-    match answer {
-        Ok(()) => Plain::PASSED,
-        Err(refusal) => Plain::new(refusal.number(), refusal.place()),
-    }
-}
-
-/// The code of an answer of the second judge.
+/// The code of an answer of the second judge: number, place and row.
 pub fn code(answer: Plain) -> u32 {
-    u32::from(answer.number) + 256 * u32::from(answer.place)
+    let row = u16::try_from(answer.row.0).expect("a row below 65,536");
+    u32::from(answer.number) + 256 * u32::from(answer.place) + 65_536 * u32::from(row)
 }
 
-/// An answer of the second judge as the wrapper would give it.
-pub fn named(answer: Plain) -> Answer {
-    Refusal::answer(code(answer))
+/// Holds an answer of the wrapper to the second judge's: the whole code, and
+/// its name.
+pub fn assert_answer(answer: Answer, expected: Plain, what: &str) {
+    assert_eq!(
+        Refusal::code_of(answer),
+        code(expected),
+        "{what}: {answer:?}, and by the second judge {expected:?}"
+    );
+    assert_eq!(answer, Refusal::answer(code(expected)), "{what}");
 }
 
 /// The second judge's ledger in the library's bytes: a plant's body starts

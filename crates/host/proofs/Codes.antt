@@ -1,14 +1,14 @@
 -- AN ANSWER AS ONE NUMBER loses nothing. Number, place and row can be read from it, so that two answers with one code are the same answer; and the answer of
--- each C function, and each in a report, has room in it: the row of a spent nullifier is below 2,048. By the first demand's list of refusals, and over a
--- bag's cases by induction.
+-- each C function, and each in a report, has room in it: the row of a spent nullifier is below 2,048. The day list takes what a case was answered, and keeps
+-- number and place. By the first demand's list of refusals, and over a bag's cases by induction.
 -- Assumes nothing.
-use Prim.Native.Nat.{ℕ, zero, suc, _-_, _/_, _%_, _<_}
+use Prim.Native.Nat.{ℕ, zero, suc, _-_, _/_, _%_, _^_, _<_}
 use mathlib.Core.Path.{_≡_, refl, sym, ap, _∙_}
 use mathlib.Core.Bool.{Bool, true, cond, _&&_}
 use mathlib.Core.Logic.{inl, inr}
 use mathlib.Core.List.{List, [], _∷_, _++_}
 use native.Mathlib.Omega.{arith}
-use borrow.Author.Tests.{ltb-true, eqb-true, eqb-false}
+use borrow.Author.Tests.{ltb-true, lt-ltb, eqb-true, eqb-false, eq-eqb, ne-eqb}
 use lib.Dec.{eqb, leb, ltb}
 use lib.ListN.{length, replicate}
 use Rattle.octets.proofs.BoolLaws.{and-both}
@@ -20,7 +20,7 @@ use Rattle.ledger.specs.declared.Ledger.{Ledger}
 use Rattle.ledger.specs.Ledgers.{mostAnchors, roomIn, damaged, no2, closeRefusals, openRefusals}
 use Rattle.ledgerbytes.specs.LedgerBytes.{isWhole, ledgerOf}
 use Rattle.judge.specs.Judging.{answerOf}
-use Rattle.judge.proofs.SpentRow.{row-within}
+use Rattle.judge.proofs.SpentRow.{other-rows, row-within}
 use Rattle.demands.specs.Refusals.{caseSentences, allPlaces}
 use Rattle.demands.proofs.Demand1.{case-answered, one-place}
 use Rattle.seal.specs.declared.Calibration.{Calibration}
@@ -31,10 +31,12 @@ use Rattle.seal.specs.declared.Sealed.the-variants.{Passed, BadLimit, NotFinite
 use Rattle.seal.specs.Body.{readOf}
 use Rattle.seal.specs.Pull.{judgeOf, sealAnswer}
 use Rattle.bag.specs.SealAndCases.{SoFar, withNext, judgedAll, allJudged, sealIn, layoutAnswer, gateAnswer, judgedCases, sevenAnswers, report, scannedOf}
+use Rattle.books.specs.DayList.{withDayRow}
 use Rattle.host.specs.Answers.{codeOf, isLong}
 use Rattle.host.specs.Ledgers.{openAnswer, judgeAnswer, closeAnswer, rootAnswer, hashAnswer}
-use Rattle.host.specs.Bags.{readAnswer, bodyAnswer, ownAnswer, scanOf, bagAnswer}
-use Rattle.host.specs.Books.{countedIn, tallyAnswer, isOnList, isAnswer, dayAnswer}
+use Rattle.host.specs.Bags.{readAnswer, bodyAnswer, scanOf, bagAnswer}
+use Rattle.host.specs.Books.{countedIn, tallyAnswer, isOnList, isAnswer, dayAnswer, dayAfter, dayList}
+use Rattle.host.proofs.DayLaws.{day-entered}
 
 -- number and place in 8 bits each, the row in 16
 pub record FitsCode (a : Answer) : Type 0 where
@@ -194,3 +196,33 @@ unfolding scannedOf report sevenAnswers allJudged EachFits
 report-fits k b s t r =
     let given = allJudged k b t r (ledgerOf s) .answers in
     each-append given _ (all-fit r _ (judgedCases k b) tt) (none-given (7 - length given))
+
+-- THE DAY LIST TAKES what a case was answered, as it was returned: only the number 8 has a row, and a pass is 0 alone
+taken : (a : Answer) → FitsCode a → ((a .number ≡ 8 → ⊥) → a .row .0 ≡ 0) → (a .number ≡ 0 → a .place ≡ 0) → isAnswer (codeOf a) ≡ true
+unfolding isAnswer
+taken a f rows places =
+    by-test (eqb (a .number) 8)
+    (λ e. let h : codeOf a % 256 ≡ 8 = number-back a f ∙ eqb-true (a .number) 8 e in
+    let n = ne-eqb (codeOf a % 256) 0 (λ z. omega (arith, z, h)) in
+    by-test (ltb (codeOf a) 65536) (λ b. rw (b, n)) (λ b. rw (b, n, eq-eqb (codeOf a % 256) 8 h)))
+    (λ e. let low = lt-ltb (codeOf a) 65536 (omega (arith, f .number, f .place, rows (eqb-false (a .number) 8 e))) in
+    by-test (eqb (a .number) 0)
+    (λ z. let n = eqb-true (a .number) 0 z in
+    let p = places n in
+    let k = rows (eqb-false (a .number) 8 e) in
+    rw (low, eq-eqb (codeOf a % 256) 0 (omega (arith, n, p, k)), eq-eqb (codeOf a) 0 (omega (arith, n, p, k))))
+    (λ z. rw (low, ne-eqb (codeOf a % 256) 0 (λ w. eqb-false (a .number) 0 z (sym (number-back a f) ∙ w)))))
+
+case-taken : (c t r : List ℕ) (l : Ledger) → isAnswer (codeOf (answerOf c t r l)) ≡ true
+case-taken c t r l =
+    let by = case-answered c t r l in
+    taken (answerOf c t r l) (case-fits c t r l) (other-rows c t r l) (λ h. ap (λ (a : Answer). a .place) (by .passed (by .passed-only h)))
+
+pub judge-taken : (c s t r : List ℕ) → isAnswer (codeOf (judgeAnswer c s t r)) ≡ true
+unfolding judgeAnswer isAnswer
+judge-taken c s t r = by-test (isWhole s) (λ w. rw w (case-taken c t r (ledgerOf s))) (λ w. rw w)
+
+-- and keeps of it number and place
+pub answer-entered : (i seal : ℕ) (a : Answer) (b : List ℕ) → seal < 2 ^ 32 → FitsCode a → isAnswer (codeOf a) ≡ true
+    → dayList (dayAfter i seal (codeOf a) b) ≡ withDayRow i (record { seal = seal; answer = a .number; place = a .place }) (dayList b)
+answer-entered i seal a b h f k = day-entered i seal (codeOf a) b h k ∙ rw (number-back a f, place-back a f)

@@ -87,20 +87,33 @@ fn is_touching(rows: &[Row], bag_length: u64) -> bool {
 
 /// Judges a bag on a fresh ledger and gives the lines to print.
 pub fn judge_bag(bytes: &[u8]) -> Vec<String> {
+    lines_of(bytes, |answer| vec![answer.case_line()])
+}
+
+/// The same lines, and behind each case that is refused as spent the line of
+/// the row where its nullifier stood.
+pub fn explain_bag(bytes: &[u8]) -> Vec<String> {
+    lines_of(bytes, Answer::case_lines)
+}
+
+/// How a case's answer is told.
+type Telling = fn(Answer) -> Vec<String>;
+
+fn lines_of(bytes: &[u8], told: Telling) -> Vec<String> {
     match read_bag(bytes) {
         None => vec![format!("bag {}", Answer::new(20, 0))],
-        Some(bag) => judge_contents(&bag),
+        Some(bag) => judge_contents(&bag, told),
     }
 }
 
-fn judge_contents(bag: &Bag) -> Vec<String> {
+fn judge_contents(bag: &Bag, told: Telling) -> Vec<String> {
     if let Err(refusal) = judge_seal(Calibration::PLAIN, bag.seal) {
         return vec![format!("seal {refusal}")];
     }
     let mut ledger = program_ledger();
     let mut lines = vec![format!("seal {}", Answer::PASSED)];
     for case in &bag.cases {
-        lines.push(format!("case {}", judge(&mut ledger, case)));
+        lines.extend(told(judge(&mut ledger, case)));
     }
     lines.push(format!(
         "ledger spent {} leaves {} pool {}",

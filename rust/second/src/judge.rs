@@ -1,6 +1,6 @@
 //! When the scanner says no: refusals 1 to 16, top to bottom.
 
-use crate::answer::Answer;
+use crate::answer::{Answer, Row, SPENT};
 use crate::bytes::Bytes32;
 use crate::case::{Case, MAX_MONEY, MAX_SUM};
 use crate::hashes;
@@ -9,10 +9,33 @@ use crate::tree::climb;
 
 /// One row of document 01's table: the answer, and when it applies.
 pub struct Rule {
-    /// What the rule answers.
+    /// Number and place of what the rule answers. Which row goes with them is
+    /// the ledger's to say.
     pub answer: Answer,
     /// Whether it applies, whatever the rows above it say.
     pub applies: fn(&Ledger, &Case) -> bool,
+}
+
+impl Rule {
+    /// What the rule answers to a case that it applies to.
+    fn refusal(&self, ledger: &Ledger, case: &Case) -> Answer {
+        Answer {
+            row: named_row(ledger, case, self.answer),
+            ..self.answer
+        }
+    }
+}
+
+/// The row that an answer names: that of the nullifier that is refused as
+/// spent, and none with every other number.
+fn named_row(ledger: &Ledger, case: &Case, answer: Answer) -> Row {
+    if answer.number != SPENT {
+        return Row::NONE;
+    }
+    let nullifier = &case.nullifiers[usize::from(answer.place) - 1];
+    ledger
+        .row_of(nullifier)
+        .expect("a spent nullifier has a row")
 }
 
 const fn rule(number: u8, place: u8, applies: fn(&Ledger, &Case) -> bool) -> Rule {
@@ -70,7 +93,7 @@ pub fn first_refusal(ledger: &Ledger, case: &Case) -> Option<Answer> {
     RULES
         .iter()
         .find(|rule| (rule.applies)(ledger, case))
-        .map(|rule| rule.answer)
+        .map(|rule| rule.refusal(ledger, case))
 }
 
 /// Every refusal that applies, in order; the judge gives the first.
@@ -78,7 +101,7 @@ pub fn all_refusals(ledger: &Ledger, case: &Case) -> Vec<Answer> {
     RULES
         .iter()
         .filter(|rule| (rule.applies)(ledger, case))
-        .map(|rule| rule.answer)
+        .map(|rule| rule.refusal(ledger, case))
         .collect()
 }
 

@@ -1,7 +1,7 @@
 //! The ledger: the nullifier table, the anchor roll, the tree, the counts
 //! and the pool.
 
-use crate::answer::Answer;
+use crate::answer::{Answer, Row};
 use crate::bytes::Bytes32;
 use crate::case::{Case, MAX_MONEY};
 use crate::tree::{empty_root, Record, Tree, DEPTH};
@@ -88,9 +88,16 @@ impl Ledger {
         used_rows(&self.roll, self.anchors, self.roll_room())
     }
 
+    /// The used table row in which this nullifier stands, from the top.
+    pub fn row_of(&self, nullifier: &Bytes32) -> Option<Row> {
+        let rows = self.spent_rows();
+        let index = rows.iter().position(|row| row == nullifier)?;
+        Some(Row(index as u64))
+    }
+
     /// Whether this nullifier is in the table.
     pub fn has_spent(&self, nullifier: &Bytes32) -> bool {
-        self.spent_rows().contains(nullifier)
+        self.row_of(nullifier).is_some()
     }
 
     /// Whether this anchor is on the roll.

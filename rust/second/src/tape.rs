@@ -7,7 +7,7 @@
 //! |---|---|---|---|
 //! | `O` | table length (4), roll length (4) | opens a fresh ledger on zeroed buffers | `open N P` |
 //! | `F` | empty | opens a fresh ledger on the lent buffers as they stand | `open N P` |
-//! | `C` | a case, any bytes | judges it | `case N P` |
+//! | `C` | a case, any bytes | judges it | `case N P`, and behind `case 8 P` the line `row K` |
 //! | `B` | empty | closes a block | `block N P` |
 //! | `S` | gain (8), offset (8), a seal (25) | judges the seal | `seal N P`, and the pull's bits on a pass |
 //! | `L` | empty | looks at the ledger | `ledger spent S leaves L anchors A pool P root HEX` |
@@ -134,7 +134,7 @@ impl Player {
     }
 
     fn case(&mut self, body: &[u8]) -> Vec<String> {
-        vec![format!("case {}", judge(&mut self.ledger, body))]
+        judge(&mut self.ledger, body).case_lines()
     }
 
     fn close_block(&mut self) -> Vec<String> {

@@ -3,7 +3,7 @@
 mod common;
 
 use common::Shift;
-use second::bag::{judge_bag, read_bag, write_bag, MAX_BAG_BYTES};
+use second::bag::{explain_bag, judge_bag, read_bag, write_bag, MAX_BAG_BYTES};
 use second::seal::{seal_bytes, Gate, Seal};
 
 const REFUSED: [&str; 1] = ["bag 20 0"];
@@ -155,4 +155,48 @@ fn a_refused_case_does_not_stop_the_next() {
         format!("ledger spent 4 leaves 4 pool {pool}"),
     ];
     assert_eq!(judge_bag(&bag), expected);
+}
+
+#[test]
+fn an_explained_bag_has_the_row_behind_each_case_that_is_refused_as_spent() {
+    let mut shift = Shift::fresh(3, 2, 1);
+    let (one, other) = (shift.good_case(), shift.good_case());
+    let [bytes, other_bytes] = [&one, &other].map(|case| case.to_bytes());
+    let cases: [&[u8]; 6] = [&bytes, &bytes, b"", &other_bytes, &bytes, &other_bytes];
+    let bag = write_bag(&open_seal(), &cases);
+    let row_among = |rows: &[[u8; 32]], named: [u8; 32]| {
+        let below = rows.iter().filter(|row| **row < named);
+        format!("row {}", below.count())
+    };
+    let all = [one.nullifiers, other.nullifiers].concat();
+    let expected = [
+        "seal 0 0".to_owned(),
+        "case 0 0".to_owned(),
+        "case 8 1".to_owned(),
+        row_among(&one.nullifiers, one.nullifiers[0]),
+        "case 1 0".to_owned(),
+        "case 0 0".to_owned(),
+        "case 8 1".to_owned(),
+        row_among(&all, one.nullifiers[0]),
+        "case 8 1".to_owned(),
+        row_among(&all, other.nullifiers[0]),
+        judge_bag(&bag).pop().expect("the ledger's line"),
+    ];
+    assert_eq!(explain_bag(&bag), expected);
+    let is_row = |line: &String| line.starts_with("row ");
+    let plain: Vec<String> = expected.into_iter().filter(|line| !is_row(line)).collect();
+    assert_eq!(judge_bag(&bag), plain);
+}
+
+#[test]
+fn a_bag_without_a_spent_nullifier_is_explained_by_the_same_lines() {
+    let case = Shift::fresh(4, 2, 1).good_case().to_bytes();
+    let refused_seal = seal_bytes(0, 0, 0, f64::NAN.to_bits());
+    for bag in [
+        write_bag(&open_seal(), &[&case, b""]),
+        write_bag(&refused_seal, &[&case, &case]),
+        sound_bag()[1..].to_vec(),
+    ] {
+        assert_eq!(explain_bag(&bag), judge_bag(&bag));
+    }
 }

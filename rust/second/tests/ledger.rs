@@ -3,8 +3,8 @@
 mod common;
 
 use common::Shift;
-use second::answer::Answer;
-use second::ledger::Ledger;
+use second::answer::{Answer, Row};
+use second::ledger::{Ledger, ROW_BYTES};
 use second::tree::{empty_root, Record, DEPTH};
 
 #[test]
@@ -102,4 +102,35 @@ fn an_open_block_is_no_anchor_and_a_closed_one_is() {
     assert_eq!(second::judge::judge(&mut ledger, &file), Answer::new(6, 0));
     assert_eq!(ledger.close_block(), Answer::PASSED);
     assert_eq!(second::judge::judge(&mut ledger, &file), Answer::PASSED);
+}
+
+#[test]
+fn each_used_row_of_the_table_is_found_where_it_stands() {
+    let ledger = Shift::busy(6).ledger;
+    let rows = ledger.spent_rows();
+    assert_eq!(rows.len(), 14);
+    for (index, row) in rows.iter().enumerate() {
+        assert_eq!(ledger.row_of(row), Some(Row(index as u64)));
+        assert!(ledger.has_spent(row));
+        for byte in [0, ROW_BYTES - 1] {
+            let mut near = *row;
+            near[byte] ^= 1;
+            assert_eq!(ledger.row_of(&near), None, "off in byte {byte}");
+            assert!(!ledger.has_spent(&near));
+        }
+    }
+}
+
+#[test]
+fn a_row_past_the_count_is_not_found() {
+    let mut ledger = Shift::busy(7).ledger;
+    let rows = ledger.spent_rows();
+    let [.., before, last] = &rows[..] else {
+        panic!("a ledger in use has rows");
+    };
+    ledger.spent -= 1;
+    assert_eq!(ledger.row_of(last), None);
+    assert_eq!(ledger.row_of(before), Some(Row(ledger.spent - 1)));
+    ledger.spent = 0;
+    assert_eq!(ledger.row_of(before), None);
 }

@@ -3,7 +3,7 @@
 use std::cmp::Ordering;
 use std::ops::Range;
 
-use second::answer::Answer;
+use second::answer::{Answer, SPENT};
 use second::bytes::{Bytes32, Reader};
 use second::case::{Case, MAX_SUM};
 use second::hashes;
@@ -246,7 +246,7 @@ fn is_found(
             }
         };
         let given = RULES.iter().find(applies).map(|rule| rule.answer);
-        given != first_refusal(ledger, case)
+        given != first_refusal(ledger, case).map(Answer::without_row)
     })
 }
 
@@ -695,6 +695,94 @@ fn finds_order<T: Ord>(searched: &[Searched], seen: impl Fn(&Bytes32) -> T) -> b
         RIGHT.search(&rows, &seen(row))
     };
     searched.iter().any(|case| case.tells(&search))
+}
+
+#[test]
+fn a_row_stands_behind_each_case_that_is_refused_as_spent_and_nowhere_else() {
+    for seed in SEEDS {
+        let lines = make_tape(seed, 600).lines;
+        for pair in lines.windows(2) {
+            let is_spent = pair[0].starts_with("case 8 ");
+            assert_eq!(pair[1].starts_with("row "), is_spent, "{pair:?}");
+        }
+    }
+}
+
+/// A case that is refused as spent.
+struct Refused {
+    /// The run that it is in.
+    run: String,
+    /// The rows that it met.
+    rows: Vec<Bytes32>,
+    /// The row that is named.
+    row: usize,
+}
+
+/// The cases of a tape that are refused as spent.
+fn refused_as_spent(tape: &[u8]) -> Vec<Refused> {
+    let mut player = Player::new();
+    let (mut run, mut refused) = (String::new(), Vec::new());
+    for (kind, body) in entries(tape) {
+        let rows = player.ledger.spent_rows();
+        let Some(lines) = player.play(kind, body) else {
+            break;
+        };
+        match (kind, lines.first().map(String::as_str)) {
+            (b'N', Some(name)) => run = name["run ".len()..].to_owned(),
+            (b'C', Some(line)) if line.starts_with("case 8 ") => refused.push(Refused {
+                run: run.clone(),
+                rows,
+                row: lines[1]["row ".len()..].parse().expect("a row"),
+            }),
+            _ => (),
+        }
+    }
+    refused
+}
+
+/// Where a judge would have a row to tell though it answers another number: the
+/// row of a spent nullifier, or the gap for the first one.
+fn leaked_row(ledger: &Ledger, case: &Case) -> usize {
+    let rows = ledger.spent_rows();
+    let is_spent = |nullifier: &&Bytes32| rows.contains(nullifier);
+    let spent = case.nullifiers.iter().find(is_spent);
+    let looked_for = spent.unwrap_or(&case.nullifiers[0]);
+    rows.iter().filter(|row| *row < looked_for).count()
+}
+
+#[test]
+fn a_tape_finds_rows_that_go_with_another_answer() {
+    for seed in SEEDS {
+        let judged = judged_cases(&make_tape(seed, 600).bytes);
+        for number in (0..=16).filter(|number| ![1, SPENT].contains(number)) {
+            let leaks = |(ledger, case): &(Ledger, Case)| {
+                let refusal = first_refusal(ledger, case).unwrap_or(Answer::PASSED);
+                refusal.number == number && leaked_row(ledger, case) != refusal.row.0 as usize
+            };
+            let is_found = judged.iter().any(leaks);
+            assert!(is_found, "seed {seed}: a row with answer {number}");
+        }
+    }
+}
+
+#[test]
+fn a_long_tape_names_the_row_that_each_of_its_row_searches_planted() {
+    for seed in SEEDS {
+        let tape = make_tape(seed, 700);
+        let mut searches = 0;
+        for case in refused_as_spent(&tape.bytes) {
+            let planted = case.run.strip_prefix("row-").and_then(|rest| {
+                let (row, rows) = rest.split_once("-of-")?;
+                Some((row.parse().ok()?, rows.parse().ok()?))
+            });
+            if let Some((row, rows)) = planted {
+                assert_eq!((case.row, case.rows.len()), (row, rows), "{}", case.run);
+                searches += 1;
+            }
+        }
+        // Each row of 2, 4, 6 and 8, and three of 2,046.
+        assert_eq!(searches, 23, "seed {seed}");
+    }
 }
 
 #[test]

@@ -3,22 +3,23 @@
 mod common;
 
 use common::Shift;
-use second::answer::Answer;
+use second::answer::{Answer, Row};
 use second::case::{Amount, Case};
 use second::judge::judge;
 use second::ledger::Ledger;
 use second::maker::bends::BENDS;
 use second::wallet::{balance, idle_note, set_nullifiers};
 
-/// Judges two files one after the other, on a copy.
+/// Judges two files one after the other, on a copy: number and place of the
+/// answers, which are all that the demand speaks of.
 fn judge_both(ledger: &Ledger, files: [&[u8]; 2]) -> (Ledger, [Answer; 2]) {
     let mut ledger = ledger.clone();
-    let answers = files.map(|file| judge(&mut ledger, file));
+    let answers = files.map(|file| judge(&mut ledger, file).without_row());
     (ledger, answers)
 }
 
 fn judge_alone(ledger: &Ledger, file: &[u8]) -> Answer {
-    judge(&mut ledger.clone(), file)
+    judge(&mut ledger.clone(), file).without_row()
 }
 
 /// A case good or bent, as a file of a right or, now and then, wrong length.
@@ -129,4 +130,37 @@ fn of_two_good_cases_with_a_common_nullifier_the_second_is_refused_as_spent() {
         }
     }
     assert!(places.iter().all(|times| *times > 5), "{places:?}");
+}
+
+/// The row with which a file is refused as spent at place 1.
+fn spent_row(ledger: &mut Ledger, file: &[u8]) -> Row {
+    let answer = judge(ledger, file);
+    assert_eq!(answer.without_row(), Answer::new(8, 1));
+    answer.row
+}
+
+#[test]
+fn a_case_between_shifts_the_row_by_what_it_enters_below_and_nothing_else() {
+    let mut shifts = [0; 3];
+    for seed in 0..40 {
+        let mut shift = Shift::busy(seed);
+        let rows = shift.ledger.spent_rows();
+        let index = shift.random.below(rows.len());
+        let mut spent = shift.good_case();
+        spent.nullifiers[0] = rows[index];
+        let file = spent.to_bytes();
+        assert_eq!(spent_row(&mut shift.ledger, &file), Row(index as u64));
+
+        let between = shift.good_case();
+        assert_eq!(
+            judge(&mut shift.ledger, &between.to_bytes()),
+            Answer::PASSED
+        );
+        let is_below = |nullifier: &&[u8; 32]| **nullifier < rows[index];
+        let below = between.nullifiers.iter().filter(is_below).count();
+        let shifted = Row((index + below) as u64);
+        assert_eq!(spent_row(&mut shift.ledger, &file), shifted, "seed {seed}");
+        shifts[below] += 1;
+    }
+    assert!(shifts.iter().all(|times| *times > 3), "{shifts:?}");
 }

@@ -5,7 +5,8 @@ mod common;
 use std::collections::BTreeSet;
 
 use common::Shift;
-use second::answer::Answer;
+use second::answer::{Answer, Row, SPENT};
+use second::bytes::Bytes32;
 use second::case::{Amount, Case, CASE_BYTES};
 use second::judge::{all_refusals, judge, RULES};
 use second::ledger::{Ledger, ROW_BYTES};
@@ -13,14 +14,32 @@ use second::maker::bends::{bend_named, Bend, BENDS};
 use second::maker::tampers::TAMPERS;
 use second::tree::Tree;
 
-/// Judges a case, and checks that a refusal changes no byte.
+/// Judges a case, and checks that a refusal changes no byte and that the row is
+/// as it has to be.
 fn judge_checked(ledger: &mut Ledger, file: &[u8]) -> Answer {
     let before = ledger.clone();
     let answer = judge(ledger, file);
     if !answer.is_pass() {
         assert_eq!(*ledger, before, "a refusal must leave the ledger alone");
     }
+    check_row(&before, file, answer);
     answer
+}
+
+/// With refusal 8 the bytes of the row that it names are those of the nullifier
+/// at its place. Every other answer has zero there.
+fn check_row(ledger: &Ledger, file: &[u8], answer: Answer) {
+    if answer.number != SPENT {
+        assert_eq!(answer.row, Row(0), "{answer} names no row");
+        assert_eq!(answer.named_row(), None);
+        return;
+    }
+    let case = Case::read(file).expect("a case that was looked for");
+    let nullifier = case.nullifiers[usize::from(answer.place) - 1];
+    let start = answer.row.0 as usize * ROW_BYTES;
+    assert!(answer.row.0 < ledger.spent, "the row is in use");
+    assert_eq!(ledger.table[start..start + ROW_BYTES], nullifier);
+    assert_eq!(answer.named_row(), Some(answer.row));
 }
 
 /// Ledgers on which each bend can be made, with cases bent in that way.
@@ -45,9 +64,71 @@ fn every_bent_case_gets_the_answer_it_was_bent_for() {
         assert!(!made.is_empty(), "never made: {}", bend.name);
         for (mut ledger, case) in made {
             let answer = judge_checked(&mut ledger, &case.to_bytes());
-            assert_eq!(answer, bend.answer, "{}", bend.name);
+            assert_eq!(answer.without_row(), bend.answer, "{}", bend.name);
         }
     }
+}
+
+#[test]
+fn a_row_goes_with_refusal_8_alone() {
+    let mut numbers = BTreeSet::new();
+    for bend in BENDS {
+        for (ledger, case) in bent_cases(bend) {
+            for refusal in all_refusals(&ledger, &case) {
+                check_row(&ledger, &case.to_bytes(), refusal);
+                numbers.insert(refusal.number);
+            }
+        }
+    }
+    assert_eq!(numbers, (4..=16).collect());
+}
+
+/// A good case with these nullifiers copied in.
+fn with_nullifiers(shift: &mut Shift, rows: [Option<Bytes32>; 2]) -> Case {
+    let mut case = shift.good_case();
+    for (nullifier, row) in case.nullifiers.iter_mut().zip(rows) {
+        *nullifier = row.unwrap_or(*nullifier);
+    }
+    case
+}
+
+#[test]
+fn refusal_8_names_the_row_of_the_nullifier_at_its_place() {
+    let mut shift = Shift::busy(10);
+    let rows = shift.ledger.spent_rows();
+    let mut answer = |rows: [Option<Bytes32>; 2]| {
+        let file = with_nullifiers(&mut shift, rows).to_bytes();
+        judge_checked(&mut shift.ledger, &file)
+    };
+    assert_eq!(rows.len(), 14);
+    for (index, row) in rows.iter().enumerate() {
+        let named = Row(index as u64);
+        assert_eq!(answer([Some(*row), None]), Answer::spent(1, named));
+        assert_eq!(answer([None, Some(*row)]), Answer::spent(2, named));
+        let other = rows[(index + 5) % rows.len()];
+        assert_eq!(answer([Some(*row), Some(other)]), Answer::spent(1, named));
+        let twice = [Some(*row), Some(*row)];
+        assert_eq!(answer(twice), Answer::new(7, 0), "7 names no row");
+    }
+}
+
+#[test]
+fn a_spent_nullifier_s_row_is_not_told_where_the_ledger_is_refused() {
+    let mut shift = Shift::busy(11);
+    let last = shift.ledger.spent_rows().pop();
+    let file = with_nullifiers(&mut shift, [last, None]).to_bytes();
+    let spent = shift.ledger.spent;
+    for free in [0, 1] {
+        let mut full = shift.ledger.clone();
+        full.table.truncate((spent as usize + free) * ROW_BYTES);
+        let answer = judge_checked(&mut full, &file);
+        assert_eq!(answer, Answer::new(3, 0), "{free} free rows");
+    }
+    let mut damaged = shift.ledger.clone();
+    damaged.anchors = 0;
+    assert_eq!(judge_checked(&mut damaged, &file), Answer::new(2, 0));
+    let answer = judge_checked(&mut shift.ledger, &file);
+    assert_eq!(answer, Answer::spent(1, Row(spent - 1)));
 }
 
 #[test]
@@ -56,8 +137,8 @@ fn every_refusal_is_reached_by_a_case_with_nothing_else_wrong() {
     for bend in BENDS {
         for (ledger, case) in bent_cases(bend) {
             if let [only] = all_refusals(&ledger, &case)[..] {
-                assert_eq!(only, bend.answer, "{}", bend.name);
-                reached.insert(only);
+                assert_eq!(only.without_row(), bend.answer, "{}", bend.name);
+                reached.insert(only.without_row());
             }
         }
     }
@@ -74,6 +155,7 @@ fn the_table_has_each_answer_once_and_in_order() {
     assert_eq!(answers.last(), Some(&Answer::new(16, 2)));
     let numbers: BTreeSet<u8> = answers.iter().map(|answer| answer.number).collect();
     assert_eq!(numbers, (2..=16).collect());
+    assert!(answers.iter().all(|answer| answer.row == Row::NONE));
 }
 
 #[test]
@@ -223,7 +305,7 @@ fn a_fresh_nullifier_is_not_kept_when_the_other_is_spent() {
     let bend = bend_named("spent note in place 2");
     let case = shift.bent_case(bend).expect("a spent note");
     let answer = judge_checked(&mut shift.ledger, &case.to_bytes());
-    assert_eq!(answer, Answer::new(8, 2));
+    assert_eq!(answer.without_row(), Answer::new(8, 2));
     assert!(!shift.ledger.has_spent(&case.nullifiers[0]));
 }
 

@@ -84,6 +84,7 @@ fn a_short_day_prints_its_lines() {
         "open 0 0".to_owned(),
         "case 0 0".to_owned(),
         "case 8 1".to_owned(),
+        format!("row {}", usize::from(case.nullifiers[0] == spent[1])),
         "block 0 0".to_owned(),
         "block 3 0".to_owned(),
         ledger_line(&counts, &root),
@@ -93,6 +94,38 @@ fn a_short_day_prints_its_lines() {
         format!("anchor {}", hex(&root)),
     ];
     assert_eq!(play(&tape.concat()), expected);
+}
+
+#[test]
+fn a_case_that_is_refused_as_spent_is_followed_by_its_row_and_no_other_one_is() {
+    let mut shift = Shift::busy(5);
+    let rows = shift.ledger.spent_rows();
+    let file = shift.good_case().to_bytes();
+    let mut tape = planting(&shift.ledger);
+    let mut expected = vec!["plant 0 0".to_owned()];
+    for (index, row) in rows.iter().enumerate() {
+        for (place, at) in [(1, 48), (2, 80)] {
+            let mut spent = file.clone();
+            spent[at..at + ROW_BYTES].copy_from_slice(row);
+            tape.extend(entry(b'C', &spent));
+            expected.extend([format!("case 8 {place}"), format!("row {index}")]);
+        }
+    }
+    // Nothing of a row is kept for the answers that follow.
+    tape.extend([entry(b'C', &[]), entry(b'B', &[]), entry(b'C', &file)].concat());
+    expected.extend(["case 1 0", "block 0 0", "case 0 0"].map(str::to_owned));
+    assert_eq!(play(&tape), expected);
+}
+
+#[test]
+fn a_spent_nullifier_in_a_full_table_prints_no_row() {
+    let mut shift = Shift::busy(6);
+    let mut case = shift.good_case();
+    case.nullifiers[0] = shift.ledger.spent_rows()[9];
+    let entered = shift.ledger.spent as usize;
+    shift.ledger.table.truncate((entered + 1) * ROW_BYTES);
+    let tape = [planting(&shift.ledger), entry(b'C', &case.to_bytes())];
+    assert_eq!(play(&tape.concat()), ["plant 0 0", "case 3 0"]);
 }
 
 #[test]

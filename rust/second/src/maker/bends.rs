@@ -31,7 +31,8 @@ pub struct Bench<'a> {
 pub struct Bend {
     /// What is bent, in a few words.
     pub name: &'static str,
-    /// The answer that it was bent for.
+    /// Number and place of the answer that it was bent for. Which row goes with
+    /// a spent nullifier depends on the ledger.
     pub answer: Answer,
     /// The bending.
     pub apply: fn(&mut Bench, Case) -> Option<Case>,

@@ -3,7 +3,7 @@
 use std::collections::BTreeMap;
 use std::fmt;
 
-use crate::answer::Answer;
+use crate::answer::{Answer, Row};
 
 /// How often each answer and each purpose is on a tape.
 #[derive(Clone, Debug, Default)]
@@ -53,7 +53,23 @@ impl fmt::Display for Coverage {
     }
 }
 
-/// The kind and the answer of a line, if it is one that answers.
+/// The answer of an entry that printed these lines: number and place stand in
+/// the first, and the row in a second one behind a case that is refused as
+/// spent, and there alone.
+pub fn answer_in(lines: &[String]) -> Option<Answer> {
+    let (line, behind) = lines.split_first()?;
+    let (_, answer) = answer_of(line)?;
+    match (answer.named_row(), behind) {
+        (None, []) => Some(answer),
+        (Some(_), [row]) => Some(Answer {
+            row: Row(row.strip_prefix("row ")?.parse().ok()?),
+            ..answer
+        }),
+        _ => None,
+    }
+}
+
+/// The kind of a line and its number and place, if it is one that answers.
 pub fn answer_of(line: &str) -> Option<(&str, Answer)> {
     let mut words = line.split(' ');
     let kind = words.next()?;

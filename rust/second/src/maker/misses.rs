@@ -143,7 +143,7 @@ fn rows_around_nullifiers(maker: &mut Maker) {
     plant_rows(maker, &rows, false);
     maker.judge(&case, Answer::PASSED, "rows around the nullifiers");
     maker.look_at_memory("memory after an acceptance");
-    maker.judge(&case, Answer::new(8, 1), "case once more");
+    maker.judge(&case, maker.spent_again(&case), "case once more");
     maker.leave_ledger();
 }
 

@@ -17,7 +17,7 @@ pub mod tampers;
 
 use std::collections::HashMap;
 
-use crate::answer::Answer;
+use crate::answer::{Answer, Row, SPENT};
 use crate::case::{Case, CASE_BYTES};
 use crate::judge::all_refusals;
 use crate::ledger::Ledger;
@@ -181,11 +181,10 @@ impl Maker {
         lines
     }
 
-    /// Puts an entry that answers with a number and a place on the tape.
+    /// Puts an entry that is answered on the tape.
     fn ask(&mut self, kind: u8, body: &[u8], purpose: Option<String>) -> Answer {
         let lines = self.put(kind, body, purpose);
-        let (_, answer) = coverage::answer_of(&lines[0]).expect("an answer");
-        answer
+        coverage::answer_in(&lines).expect("an answer")
     }
 
     /// Puts a case file on the tape, and checks the answer.
@@ -217,6 +216,23 @@ impl Maker {
         }
     }
 
+    /// An answer with the row that goes with it here, by another way than the
+    /// judge's: below a spent nullifier stand all rows that are less.
+    fn with_row(&self, answer: Answer, case: &Case) -> Answer {
+        if answer.number != SPENT {
+            return answer;
+        }
+        let nullifier = &case.nullifiers[usize::from(answer.place) - 1];
+        let rows = self.player.ledger.spent_rows();
+        let below = rows.iter().filter(|row| *row < nullifier).count();
+        Answer::spent(answer.place, Row(below as u64))
+    }
+
+    /// What an accepted case is answered when it comes once more.
+    fn spent_again(&self, case: &Case) -> Answer {
+        self.with_row(Answer::new(SPENT, 1), case)
+    }
+
     fn has_room(&self) -> bool {
         let ledger = &self.player.ledger;
         !ledger.is_damaged() && ledger.free_table_rows() >= 2
@@ -231,7 +247,7 @@ impl Maker {
     /// A bent case.
     fn bent_case(&mut self) {
         match self.any_bend() {
-            Some((bend, case)) => self.judge(&case, bend.answer, bend.name),
+            Some((bend, case)) => self.judge_bent(&case, bend),
             None => self.good_case(),
         }
     }
@@ -239,8 +255,14 @@ impl Maker {
     /// A case bent in this way, if it can be.
     fn case_bent_by(&mut self, bend: &Bend) {
         if let Some(case) = self.try_bend(bend) {
-            self.judge(&case, bend.answer, bend.name);
+            self.judge_bent(&case, bend);
         }
+    }
+
+    /// Puts a case that was bent in this way on the tape.
+    fn judge_bent(&mut self, case: &Case, bend: &Bend) {
+        let answer = self.with_row(bend.answer, case);
+        self.judge(case, answer, bend.name);
     }
 
     /// A case bent in a way that is due. False if there is none, or if none
@@ -250,7 +272,7 @@ impl Maker {
             return false;
         }
         if let Some((bend, case)) = self.take_due_bend() {
-            self.judge(&case, bend.answer, bend.name);
+            self.judge_bent(&case, bend);
             return true;
         }
         if let Some(pair) = self.take_due_pair() {
@@ -312,7 +334,8 @@ impl Maker {
     }
 
     fn judge_pair(&mut self, (case, lower, higher): (Case, Answer, Answer)) {
-        self.judge(&case, lower, &format!("pair {lower} before {higher}"));
+        let answer = self.with_row(lower, &case);
+        self.judge(&case, answer, &format!("pair {lower} before {higher}"));
     }
 
     fn take_due_pair(&mut self) -> Option<(Case, Answer, Answer)> {
@@ -352,7 +375,10 @@ impl Maker {
         let case = self.apply(then, case)?;
         let lower = first.answer.min(then.answer);
         let higher = first.answer.max(then.answer);
-        let refusals = all_refusals(&self.player.ledger, &case);
+        let refusals: Vec<Answer> = all_refusals(&self.player.ledger, &case)
+            .into_iter()
+            .map(Answer::without_row)
+            .collect();
         let is_pair = lower < higher
             && refusals.first() == Some(&lower)
             && refusals.contains(&higher)
@@ -364,13 +390,13 @@ impl Maker {
     fn replayed_case(&mut self) {
         let mut case = self.purse.good_case(&mut self.random);
         self.judge(&case, Answer::PASSED, "good case");
+        let mut purpose = "case once more";
         if self.random.one_in(2) {
             case.old.swap(0, 1);
             set_nullifiers(&mut case);
-            self.judge(&case, Answer::new(8, 1), "old notes spent again, swapped");
-        } else {
-            self.judge(&case, Answer::new(8, 1), "case once more");
+            purpose = "old notes spent again, swapped";
         }
+        self.judge(&case, self.spent_again(&case), purpose);
     }
 
     /// A bent case, and then the good one that it was bent from: the refusal
@@ -380,7 +406,7 @@ impl Maker {
         let bend = self.random.pick(BENDS);
         if let Some(bent) = self.apply(bend, case.clone()) {
             if !bend.answer.is_pass() {
-                self.judge(&bent, bend.answer, bend.name);
+                self.judge_bent(&bent, bend);
                 self.judge(&case, Answer::PASSED, "good case after its bent form");
             }
         }

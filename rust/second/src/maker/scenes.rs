@@ -557,7 +557,7 @@ fn spend_twins(maker: &mut Maker, twins: &Twins) {
     ] {
         let bend = bend_named(name);
         if let Some(bent) = maker.apply(bend, case.clone()) {
-            maker.judge(&bent, bend.answer, bend.name);
+            maker.judge_bent(&bent, bend);
         }
     }
     maker.judge(&case, Answer::PASSED, "notes at any position");
@@ -777,7 +777,8 @@ fn deep_ledger(random: &mut Random, count: u32) -> Ledger {
 }
 
 /// Two cases in one order and then, from the same ledger, in the other: first
-/// two that share a nullifier, then two that do not.
+/// two that share a nullifier, then two that do not. The order leaves number and
+/// place as they are; rows may be shifted by the case before.
 fn order(maker: &mut Maker) {
     let ledger = small_ledger(maker);
     let purse = maker.purse.clone();
@@ -787,8 +788,13 @@ fn order(maker: &mut Maker) {
         assert!(is_spent, "the second is refused as spent");
     }
     let pair = unrelated_cases(maker);
-    let answers = both_orders(maker, &ledger, pair);
-    assert_eq!(answers[0], [answers[1][1], answers[1][0]], "order matters");
+    let [one_first, other_first] = both_orders(maker, &ledger, pair);
+    let [other, one] = other_first.map(Answer::without_row);
+    assert_eq!(
+        one_first.map(Answer::without_row),
+        [one, other],
+        "order matters"
+    );
     maker.purse = purse;
     maker.purse.stop_growing();
 }

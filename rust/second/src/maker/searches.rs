@@ -3,7 +3,7 @@
 //! nullifier in one byte alone. A tape of more than 600 entries has them, beside
 //! the entries that it was asked for; the stored one is kept shorter.
 
-use crate::answer::Answer;
+use crate::answer::{Answer, Row};
 use crate::bytes::Bytes32;
 use crate::case::{Amount, Case};
 use crate::ledger::{MAX_SPENT, ROW_BYTES};
@@ -66,8 +66,8 @@ fn in_gaps(maker: &mut Maker, rows: usize, below: usize) {
     maker.leave_ledger();
 }
 
-/// A nullifier of a case stands in this row: the first one in a row of even
-/// number, the second one in one of odd number.
+/// A nullifier of a case stands in this row, which the answer has to name: the
+/// first one in a row of even number, the second one in one of odd number.
 fn in_row(maker: &mut Maker, rows: usize, row: usize) {
     maker.name(&format!("row-{row}-of-{rows}"));
     let case = case_with(maker, are_apart);
@@ -82,7 +82,8 @@ fn in_row(maker: &mut Maker, rows: usize, row: usize) {
         rows - row - 1,
     ));
     plant_rows(maker, &table, false);
-    maker.judge(&case, Answer::new(8, which as u8 + 1), "nullifier in a row");
+    let answer = Answer::spent(which as u8 + 1, Row(row as u64));
+    maker.judge(&case, answer, "nullifier in a row");
     maker.leave_ledger();
 }
 
@@ -110,7 +111,7 @@ fn beside_in_one_byte(maker: &mut Maker, bytes: [usize; 2]) {
     plant_rows(maker, &rows, false);
     maker.judge(&case, Answer::PASSED, "rows beside in one byte");
     maker.look_at_memory("memory after an acceptance");
-    maker.judge(&case, Answer::new(8, 1), "case once more");
+    maker.judge(&case, maker.spent_again(&case), "case once more");
     maker.leave_ledger();
 }
 

@@ -53,7 +53,7 @@ impl Scene {
         }
     }
 
-    // A case with this answer.
+    // A case with an answer of this number and place.
     fn case_for(&mut self, answer: Answer) -> Case {
         let bends: Vec<&Bend> = BENDS.iter().filter(|bend| bend.answer == answer).collect();
         loop {
@@ -64,7 +64,7 @@ impl Scene {
             let bend = *self.random.pick(&bends);
             let mut bench = Bench { random: &mut self.random, purse: &self.purse };
             if let Some(case) = (bend.apply)(&mut bench, good) {
-                if first_refusal(&self.ledger, &case) == Some(answer) {
+                if first_refusal(&self.ledger, &case).map(Answer::without_row) == Some(answer) {
                     return case;
                 }
             }

@@ -259,6 +259,11 @@ const fn refused(number: u32, place: usize) -> Result<(), u32> {
     Err(number | (place as u32) << 8)
 }
 
+// Refusal 8 tells the row where the nullifier stands, too.
+const fn spent(place: usize, row: usize) -> Result<(), u32> {
+    Err(8 | (place as u32) << 8 | (row as u32) << 16)
+}
+
 // For the first or the second of a pair that a test finds wrong.
 fn none_of(wrong: impl Fn(usize) -> bool, number: u32) -> Result<(), u32> {
     match (0..2).find(|i| wrong(*i)) {
@@ -284,7 +289,12 @@ fn ask(case: &[u8; CASE_BYTES], ledger: &Ledger, table: &[u8], roll: &[u8]) -> R
     if nullifiers[0] == nullifiers[1] {
         return refused(7, 0);
     }
-    none_of(|i| rows(table, ledger.spent).binary_search(nullifiers[i]).is_ok(), 8)
+    for (i, nullifier) in nullifiers.into_iter().enumerate() {
+        if let Ok(row) = rows(table, ledger.spent).binary_search(nullifier) {
+            return spent(i + 1, row);
+        }
+    }
+    Ok(())
 }
 
 fn strays(case: &[u8; CASE_BYTES], old: usize) -> bool {
@@ -342,7 +352,7 @@ fn judged(file: &[u8], ledger: &mut Ledger, table: &mut [u8], roll: &[u8]) -> Re
     Ok(())
 }
 
-// The answer as the library gives it: the number, and 256 times the place.
+// The answer as the library gives it: the number, 256 times the place and 65,536 times the row.
 #[inline(never)]
 pub fn judge(file: &[u8], ledger: &mut Ledger, table: &mut [u8], roll: &[u8]) -> u32 {
     judged(file, ledger, table, roll).err().unwrap_or(0)

@@ -697,6 +697,51 @@ fn finds_order<T: Ord>(searched: &[Searched], seen: impl Fn(&Bytes32) -> T) -> b
     searched.iter().any(|case| case.tells(&search))
 }
 
+/// The runs for the row of a spent nullifier: what their cases are answered.
+const ROW_RUNS: [(&str, &[&str]); 11] = [
+    ("spent-in-row-2045", &["case 8 1", "row 2045"]),
+    ("spent-in-a-full-table", &["case 3 0"]),
+    (
+        "spent-in-first-row",
+        &["case 8 1", "row 0", "case 8 2", "row 0"],
+    ),
+    (
+        "spent-in-middle-row",
+        &["case 8 1", "row 3", "case 8 2", "row 3"],
+    ),
+    (
+        "spent-in-last-row",
+        &["case 8 1", "row 7", "case 8 2", "row 7"],
+    ),
+    ("both-spent", &["case 8 1", "row 3", "case 8 1", "row 7"]),
+    ("row-before-a-shift", &["case 8 1", "row 4"]),
+    ("off-in-the-last-byte", &["case 0 0", "case 8 1", "row 1"]),
+    ("row-shifted-by-two", &["case 8 1", "row 6"]),
+    ("row-not-shifted", &["case 0 0", "case 8 1", "row 6"]),
+    ("row-shifted-by-one", &["case 0 0", "case 8 1", "row 7"]),
+];
+
+/// The lines of a run that are about cases: answers, and rows.
+fn case_lines<'a>(lines: &'a [String], run: &str) -> Vec<&'a str> {
+    let name = format!("run {run}");
+    let behind = lines.iter().skip_while(|line| **line != name).skip(1);
+    let of_run = behind.take_while(|line| !line.starts_with("run "));
+    of_run
+        .map(String::as_str)
+        .filter(|line| line.starts_with("case ") || line.starts_with("row "))
+        .collect()
+}
+
+#[test]
+fn a_tape_of_600_entries_shows_the_rows_of_its_row_runs() {
+    for seed in SEEDS {
+        let lines = make_tape(seed, 600).lines;
+        for (run, expected) in ROW_RUNS {
+            assert_eq!(case_lines(&lines, run), expected, "seed {seed}: {run}");
+        }
+    }
+}
+
 #[test]
 fn a_row_stands_behind_each_case_that_is_refused_as_spent_and_nowhere_else() {
     for seed in SEEDS {
@@ -712,32 +757,157 @@ fn a_row_stands_behind_each_case_that_is_refused_as_spent_and_nowhere_else() {
 struct Refused {
     /// The run that it is in.
     run: String,
-    /// The rows that it met.
+    /// The rows that it met, and the same in the order in which they came: first
+    /// those that were planted, then each accepted case's.
     rows: Vec<Bytes32>,
-    /// The row that is named.
+    arrived: Vec<Bytes32>,
+    /// How many rows the table has room for.
+    room: usize,
+    nullifiers: [Bytes32; 2],
+    /// Which of them is named, 0 or 1, and with which row.
+    which: usize,
     row: usize,
 }
 
 /// The cases of a tape that are refused as spent.
 fn refused_as_spent(tape: &[u8]) -> Vec<Refused> {
     let mut player = Player::new();
-    let (mut run, mut refused) = (String::new(), Vec::new());
+    let (mut run, mut arrived, mut refused) = (String::new(), Vec::new(), Vec::new());
     for (kind, body) in entries(tape) {
         let rows = player.ledger.spent_rows();
+        let room = player.ledger.table_room() as usize;
         let Some(lines) = player.play(kind, body) else {
             break;
         };
         match (kind, lines.first().map(String::as_str)) {
             (b'N', Some(name)) => run = name["run ".len()..].to_owned(),
+            (b'O' | b'F' | b'P', _) => arrived = player.ledger.spent_rows(),
+            (b'C', Some("case 0 0")) => arrived.extend(nullifiers_of(body)),
             (b'C', Some(line)) if line.starts_with("case 8 ") => refused.push(Refused {
                 run: run.clone(),
                 rows,
+                arrived: arrived.clone(),
+                room,
+                nullifiers: nullifiers_of(body),
+                which: usize::from(line == "case 8 2"),
                 row: lines[1]["row ".len()..].parse().expect("a row"),
             }),
             _ => (),
         }
     }
     refused
+}
+
+fn nullifiers_of(file: &[u8]) -> [Bytes32; 2] {
+    Case::read(file).expect("a case that was judged").nullifiers
+}
+
+impl Refused {
+    fn named(&self) -> &Bytes32 {
+        &self.nullifiers[self.which]
+    }
+
+    /// The row where the nullifier of this index stands, or would go.
+    fn place_of(&self, which: usize) -> usize {
+        let nullifier = &self.nullifiers[which];
+        self.rows.partition_point(|row| row < nullifier)
+    }
+
+    /// The first row that is the named one as far as both are seen.
+    fn first_alike(&self, seen: Range<usize>) -> usize {
+        let named = &self.named()[seen.clone()];
+        let is_alike = |row: &Bytes32| row[seen.clone()] == *named;
+        self.rows.iter().position(is_alike).expect("its own row")
+    }
+
+    /// The rows of those nullifiers that are spent.
+    fn rows_of_both(&self) -> impl Iterator<Item = usize> + '_ {
+        let spent = [0, 1].into_iter();
+        spent
+            .filter(|which| self.rows.contains(&self.nullifiers[*which]))
+            .map(|which| self.place_of(which))
+    }
+
+    /// The named row's place in the half of the table that a search by halves
+    /// has left when it comes to it.
+    fn row_in_its_half(&self) -> usize {
+        let mut left = 0..self.rows.len();
+        loop {
+            let middle = left.start + left.len() / 2;
+            left = match self.row.cmp(&middle) {
+                Ordering::Equal => return middle - left.start,
+                Ordering::Less => left.start..middle,
+                Ordering::Greater => middle + 1..left.end,
+            };
+        }
+    }
+}
+
+/// The row that a wrong judge names.
+type WrongRow = fn(&Refused) -> usize;
+
+/// Rows that are wrong, each with its name.
+const WRONG_ROWS: [(&str, WrongRow); 21] = [
+    ("is always 0", |_| 0),
+    ("is counted from 1, or is the gap above", |case| {
+        case.row + 1
+    }),
+    ("is the one before it", |case| case.row.saturating_sub(1)),
+    ("is counted from the last used row", |case| {
+        case.rows.len() - 1 - case.row
+    }),
+    (
+        "is counted from the last row that there is room for",
+        |case| case.room - 1 - case.row,
+    ),
+    ("is the last used row", |case| case.rows.len() - 1),
+    ("is the first row that is not used", |case| case.rows.len()),
+    ("is always nullifier 1's", |case| case.place_of(0)),
+    ("is always nullifier 2's", |case| case.place_of(1)),
+    ("is the other nullifier's", |case| {
+        case.place_of(1 - case.which)
+    }),
+    ("is the lower one where both are spent", |case| {
+        case.rows_of_both().min().expect("one of them")
+    }),
+    ("is the higher one where both are spent", |case| {
+        case.rows_of_both().max().expect("one of them")
+    }),
+    ("counts nullifier 1 as entered where 2 is named", |case| {
+        case.row + usize::from(case.nullifiers[0] < *case.named())
+    }),
+    ("is in the order in which the rows came", |case| {
+        let is_named = |row: &Bytes32| row == case.named();
+        case.arrived.iter().position(is_named).expect("it came")
+    }),
+    ("is the first with the same first byte", |case| {
+        case.first_alike(0..1)
+    }),
+    ("is the first that is alike but for the last byte", |case| {
+        case.first_alike(0..ROW_BYTES - 1)
+    }),
+    ("is counted within a half of the table", |case| {
+        case.row_in_its_half()
+    }),
+    ("counts cases and not nullifiers", |case| case.row / 2),
+    ("counts bytes", |case| ROW_BYTES * case.row),
+    ("has eight bits", |case| case.row % (1 << 8)),
+    ("has ten bits", |case| case.row % (1 << 10)),
+];
+
+#[test]
+fn the_row_runs_of_a_tape_find_rows_that_are_wrong() {
+    for seed in SEEDS {
+        let mut refused = refused_as_spent(&make_tape(seed, 600).bytes);
+        let is_right = |case: &Refused| case.rows[case.row] == *case.named();
+        assert!(refused.iter().all(is_right), "seed {seed}: the right one");
+        refused.retain(|case| ROW_RUNS.iter().any(|(run, _)| *run == case.run));
+        for (name, wrong) in WRONG_ROWS {
+            let is_told = |case: &Refused| wrong(case) != case.row;
+            let is_found = refused.iter().any(is_told);
+            assert!(is_found, "seed {seed}: a row that {name}");
+        }
+    }
 }
 
 /// Where a judge would have a row to tell though it answers another number: the
@@ -761,6 +931,22 @@ fn a_tape_finds_rows_that_go_with_another_answer() {
             };
             let is_found = judged.iter().any(leaks);
             assert!(is_found, "seed {seed}: a row with answer {number}");
+        }
+    }
+}
+
+#[test]
+fn a_tape_has_a_spent_nullifier_s_row_that_refusals_3_and_7_do_not_tell() {
+    for seed in SEEDS {
+        let judged = judged_cases(&make_tape(seed, 600).bytes);
+        for number in [3, 7] {
+            let hides_a_row = |(ledger, case): &(Ledger, Case)| {
+                let refusal = first_refusal(ledger, case);
+                let row = ledger.row_of(&case.nullifiers[0]);
+                refusal.is_some_and(|refusal| refusal.number == number)
+                    && row.is_some_and(|row| row.0 > 0)
+            };
+            assert!(judged.iter().any(hides_a_row), "seed {seed}: {number}");
         }
     }
 }

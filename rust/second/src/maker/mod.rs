@@ -10,6 +10,7 @@ mod coverage;
 mod edges;
 mod misses;
 pub mod purse;
+mod rows;
 mod scenes;
 mod seals;
 mod searches;

@@ -14,6 +14,7 @@ use crate::wallet::{balance, idle_note, set_nullifiers, write_case, Note, Plan};
 use super::bends::{bend_named, BENDS};
 use super::misses::near_misses;
 use super::purse::Purse;
+use super::rows::{last_of_the_longest, spent_in_a_full_table, spent_rows};
 use super::seals::KINDS;
 use super::searches::searches;
 use super::tampers::{fill_spare_bytes, fill_unused_nodes, most_pool, TAMPERS};
@@ -113,6 +114,7 @@ impl Maker {
             self.is_beside = true;
             beyond_the_limits(self);
             near_misses(self);
+            spent_rows(self);
         }
         if self.wanted > LONG_TAPE {
             searches(self);
@@ -698,7 +700,18 @@ fn full_roll(maker: &mut Maker) {
 /// More rows lent than a ledger may use: counts below, at and above the limit,
 /// for judging and for closing.
 fn beyond_the_limits(maker: &mut Maker) {
-    for spent in [MAX_SPENT - 2, MAX_SPENT, MAX_SPENT + ROWS_BEYOND] {
+    table_beyond_its_limit(maker);
+    roll_beyond_its_limit(maker);
+}
+
+/// The table below its limit has a nullifier in its last row, which is asked
+/// about before the table is full and after.
+fn table_beyond_its_limit(maker: &mut Maker) {
+    let spent_case = last_of_the_longest(maker);
+    maker.name("more-table-rows-than-the-limit");
+    ask_and_close(maker);
+    spent_in_a_full_table(maker, &spent_case);
+    for spent in [MAX_SPENT, MAX_SPENT + ROWS_BEYOND] {
         maker.name("more-table-rows-than-the-limit");
         maker.purse = Purse::from_elsewhere(&mut maker.random, &[Amount(5), Amount(6)]);
         let rows = rows_with(&mut maker.random, &[], spent);
@@ -709,6 +722,9 @@ fn beyond_the_limits(maker: &mut Maker) {
         );
         ask_and_close(maker);
     }
+}
+
+fn roll_beyond_its_limit(maker: &mut Maker) {
     for anchors in [MAX_ANCHORS - 1, MAX_ANCHORS, MAX_ANCHORS + ROWS_BEYOND] {
         maker.name("more-roll-rows-than-the-limit");
         maker.purse = Purse::from_elsewhere(&mut maker.random, &[Amount(5), Amount(6)]);

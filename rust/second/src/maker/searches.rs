@@ -116,7 +116,7 @@ fn beside_in_one_byte(maker: &mut Maker, bytes: [usize; 2]) {
 }
 
 /// A right case that is as it has to be.
-fn case_with(maker: &mut Maker, is_wanted: impl Fn(&Case) -> bool) -> Case {
+pub(super) fn case_with(maker: &mut Maker, is_wanted: impl Fn(&Case) -> bool) -> Case {
     loop {
         maker.purse = Purse::from_elsewhere(&mut maker.random, &[Amount(1), Amount(2)]);
         let case = maker.purse.good_case(&mut maker.random);
@@ -138,7 +138,7 @@ fn sorted(mut rows: [Bytes32; 2]) -> [Bytes32; 2] {
 }
 
 /// So many rising rows whose first byte is one of these.
-fn rows_of(random: &mut Random, least: u8, most: u8, count: usize) -> Vec<Bytes32> {
+pub(super) fn rows_of(random: &mut Random, least: u8, most: u8, count: usize) -> Vec<Bytes32> {
     let mut rows: Vec<Bytes32> = (0..count).map(|_| random.bytes()).collect();
     let choices = usize::from(most - least) + 1;
     for row in &mut rows {

@@ -8,9 +8,10 @@ Rattle code: SHA-256 and BLAKE2b come from Python's library, and the bare compre
 library offers, is written out from FIPS 180-4 and held against that library at each run. What a
 bag must be answered is stated by hand, from the rules, beside the bag.
 
-The first sample is also the stored run of the scanner: it goes to crates/scanner/ a second time. All
-samples, bags at the edges of the rules and pairs of cases in both orders, one after the other, are the
-stored run of crates/tray/.
+The first sample is also the stored run of the scanner: it goes to crates/scanner/ a second time. The one
+with spent nullifiers is that of the explainer, which prints their rows too, and goes to crates/explainer/.
+All samples, bags at the edges of the rules and pairs of cases in both orders, one after the other, are
+the stored run of crates/tray/.
 """
 
 import hashlib
@@ -20,6 +21,7 @@ from pathlib import Path
 
 HERE = Path(__file__).resolve().parent
 SCANNER = HERE.parent / "crates" / "scanner"
+EXPLAINER = HERE.parent / "crates" / "explainer"
 TRAY = HERE.parent / "crates" / "tray"
 
 MAX_MONEY = 2_100_000_000_000_000
@@ -216,6 +218,53 @@ def bag(seal_body, *cases):
     return table(*rows) + b"".join(bodies)
 
 
+def own_nullifier(note):
+    return nullifier(note["a_sk"], note["rho"])
+
+
+def row_among(spent, note):
+    """The row where a spent note's nullifier stands, once all of these are spent."""
+    return sorted(map(own_nullifier, spent)).index(own_nullifier(note))
+
+
+def spent_again():
+    """A bag of cases that spend notes a second time, and its lines with a row behind each case that is refused for it.
+
+    None of the notes has a value, so that none needs a path. In the order of their nullifiers they are: the
+    lowest and the low one, which one case spends together, with a note between them that is never spent,
+    and then the two of the first case, the higher of which is its first.
+    """
+    notes = [old_note(f"spent {i}") for i in range(1, 6)]
+    lowest, unspent, low, second, first = sorted(notes, key=own_nullifier)
+    earlier = case("spends the high ones", vpub_old=40, old=[first, second], new=(25, 15))
+    below = case("spends the low ones", vpub_old=2, old=[low, lowest], new=(0, 2))
+    second_alone = case("spends its second again", vpub_old=5, old=[unspent, second], new=(5, 0))
+    both = case("spends both again", vpub_old=5, old=[lowest, first], new=(5, 0))
+
+    assert row_among([first, second], first) == 1
+    all_four = [first, second, low, lowest]
+    assert [row_among(all_four, note) for note in (lowest, low, second, first)] == [0, 1, 2, 3]
+    assert row_among(all_four + [unspent], unspent) == 1
+    return bag(seal(0, 100.0), earlier, earlier, below, earlier, second_alone, both), [
+        "seal 0 0",
+        "case 0 0",
+        "case 8 1",  # once more; two rows are in use, and its first nullifier is the higher
+        "row 1",
+        "case 0 0",  # both of its nullifiers go below those two
+        "case 8 1",  # the same as before, and its row is two more
+        "row 3",
+        "case 8 2",  # its first nullifier is not spent and would go into row 1; the second stands right below the highest
+        "row 2",
+        "case 8 1",  # both are spent: the first is named, with its own row and not with row 3
+        "row 0",
+        "ledger spent 4 leaves 4 pool 42",
+    ]
+
+
+def without_rows(lines):
+    return [line for line in lines if not line.startswith("row ")]
+
+
 def samples():
     """The name of each sample, its bytes, and the lines that it must print."""
     accepted = case("example", vpub_old=10000, new=(10000, 0))
@@ -252,6 +301,9 @@ def samples():
         "case 16 2",  # a bit of its second commitment is changed
         f"ledger spent 2 leaves 2 pool {MAX_MONEY}",
     ]
+
+    data, explained = spent_again()
+    yield "spent", data, without_rows(explained)
 
 
 # ---- The tray: each bag behind its length ------------------------------------------------------
@@ -514,6 +566,11 @@ def main():
         if name == "example":
             (SCANNER / "stdin").write_bytes(data)
             (SCANNER / "stdout").write_text(as_text(lines))
+    data, explained = spent_again()
+    (HERE / "spent-rows.txt").write_text(as_text(explained))
+    EXPLAINER.mkdir(exist_ok=True)
+    (EXPLAINER / "stdin").write_bytes(data)
+    (EXPLAINER / "stdout").write_text(as_text(explained))
     data, lines = tray()
     (TRAY / "stdin").write_bytes(data)
     (TRAY / "stdout").write_text(as_text(lines))

@@ -4,7 +4,7 @@
 use std::fs;
 use std::path::{Path, PathBuf};
 
-use second::bag::{judge_bag, MAX_BAG_BYTES};
+use second::bag::{explain_bag, judge_bag, MAX_BAG_BYTES};
 use second::bytes::Reader;
 use second::tape::MAX_NAME_BYTES;
 
@@ -70,12 +70,27 @@ fn judge_tray(bytes: &[u8]) -> Vec<String> {
 #[test]
 fn each_sample_prints_its_lines() {
     let bags = sample_bags();
-    assert!(bags.len() >= 4, "only {} samples", bags.len());
+    assert!(bags.len() >= 5, "only {} samples", bags.len());
     for path in bags {
         let bag = fs::read(&path).expect("a bag");
         let expected = fs::read_to_string(path.with_extension("txt")).expect("its lines");
         assert_eq!(as_text(&judge_bag(&bag)), expected, "{}", path.display());
     }
+}
+
+#[test]
+fn the_sample_with_spent_nullifiers_is_explained_by_its_rows() {
+    let bag = fs::read(at_home("samples/spent.bag")).expect("the bag");
+    let read = |name: &str| fs::read_to_string(at_home(name)).expect("its lines");
+    let expected = read("samples/spent-rows.txt");
+    assert_eq!(as_text(&explain_bag(&bag)), expected);
+    let is_row = |line: &&str| line.starts_with("row ");
+    let rows: Vec<&str> = expected.lines().filter(is_row).collect();
+    assert_eq!(rows, ["row 1", "row 3", "row 2", "row 0"]);
+    // The same is the explainer's stored run.
+    let stored = fs::read(at_home("crates/explainer/stdin")).expect("the bag");
+    assert!(stored == bag, "the explainer is run on another bag");
+    assert_eq!(read("crates/explainer/stdout"), expected);
 }
 
 #[test]

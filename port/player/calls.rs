@@ -41,8 +41,9 @@ pub const SECOND: Calls = Calls { open, judge, close, root, hash, seal, bag, tal
 
 pub const LEDGER_BYTES: usize = 988;
 
+/// An answer as one number: the refusal's own, 256 times its place and 65,536 times the row that it names.
 fn code(answer: Answer) -> u32 {
-    u32::from(answer.number) + 256 * u32::from(answer.place)
+    u32::from(answer.number) + 256 * u32::from(answer.place) + 65_536 * answer.row.0 as u32
 }
 
 fn wrong_length(place: u8) -> u32 {

@@ -109,10 +109,12 @@ impl Run<'_> {
         self.books();
     }
 
+    /// A call's answer, as number, place and row, and what it left of the buffers.
     fn tell(&mut self, what: &str, answer: u32, buffers: &[&[u8]]) {
         let mut hasher = DefaultHasher::new();
         buffers.hash(&mut hasher);
-        (self.say)(format!("{what} {} {} {:016x}", answer % 256, answer / 256, hasher.finish()));
+        let (number, place, row) = (answer % 256, answer / 256 % 256, answer / 65_536);
+        (self.say)(format!("{what} {number} {place} {row} {:016x}", hasher.finish()));
     }
 
     fn judge(&mut self, case: &[u8], m: &mut Memory) {

@@ -169,7 +169,8 @@ fn tally(tally: &mut [u8], answer: u32) -> u32 {
 
 fn day(list: &mut [u8], row: usize, seal: u32, answer: u32) -> u32 {
     let Some(entry) = list.chunks_exact_mut(6).nth(row) else { return 53 };
-    if answer > 0xffff || (answer != 0 && answer & 0xff == 0) {
+    let number = answer & 0xff;
+    if (answer > 0xffff && number != 8) || (answer != 0 && number == 0) {
         return 54;
     }
     entry[..4].copy_from_slice(&seal.to_le_bytes());

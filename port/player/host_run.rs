@@ -292,7 +292,7 @@ impl Run<'_> {
             self.tell("tally", answer, &[&tally]);
             for row in [0, 1, 2, 3, 4, 1 << 32, usize::MAX / 6, usize::MAX / 6 + 1, usize::MAX] {
                 let list = vec![7; length];
-                for answer in [0, 0x0208, 0x0100, 0x0001, 0xff00, 0xffff, 0x1_0000, 0x1_0208] {
+                for answer in [0, 0x0208, 0x0100, 0x0001, 0xff00, 0xffff, 0x1_0000, 0x1_0208, 0x1_0109, 0x1_0107, 0xffff_0108] {
                     let mut list = list.clone();
                     let answer = (self.calls.day)(&mut list, row, 0x0403_0201, answer);
                     self.tell("day", answer, &[&list]);

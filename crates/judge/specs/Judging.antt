@@ -24,7 +24,7 @@ judgeRefusals c t r l =
     ∷ no5 c  -- a public value is above all money: 1 the old, 2 the new
     ∷ no6 r l (anchorOf c)  -- the anchor is not on the roll
     ∷ no7 c  -- the two nullifiers are equal
-    ∷ no8 t l (nullifierOf 1 c) (nullifierOf 2 c)  -- nullifier i is in the table
+    ∷ no8 t l (nullifierOf 1 c) (nullifierOf 2 c)  -- nullifier i is in the table; its row goes with it
     ∷ no9 c  -- key i has a top bit or position i is no leaf; place 3: phi has a top bit
     ∷ no10 c  -- old note i has a value, and its path does not end at the anchor
     ∷ no11 c  -- what goes in is not what comes out, or is above 2 ^ 64 - 1

@@ -4,3 +4,4 @@ mod Marked
 pub mod Order
 mod PathLaws
 mod TestLaws
+mod WordLaws

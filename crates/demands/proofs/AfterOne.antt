@@ -16,7 +16,7 @@ use Rattle.ledger.proofs.Members.{member-insert, insert-member}
 use Rattle.ledger.proofs.Soundness.{within}
 use Rattle.ledger.proofs.TableLaws.{entered-drop}
 use Rattle.demands.specs.Histories.{Held, judged, heldAfter, answerOn, nullifiersOf, AfterOne}
-use Rattle.demands.proofs.OneCase.{nullifier-long, ready-before, table-is, ledger-is, length-then, rows-then, sound-then}
+use Rattle.demands.proofs.OneCase.{nullifier-long, ready-before, table-is, ledger-is, length-then, rows-then, pool-then, sound-then}
 
 -- rows with a case's two nullifiers put in have those two for members, beside their own
 module _ (c : List ℕ) (rows : List (List ℕ)) where
@@ -71,7 +71,7 @@ after-one c b h =
           rw (table-is c t r l h)
           (entered-drop (l .nullifiers) t (nullifierOf 1 c) (nullifierOf 2 c) (within (l .nullifiers + 2) mostNullifiers (length t) (g .room)) (n .0) (n .1) (g .fresh) (l .nullifiers + 2) (omega arith));
       tree = ap (λ (m : Ledger). m .tree) e;
-      pool = ap (λ (m : Ledger). m .pool .0) e;
+      pool = pool-then c t r l h;
       anchors = ap (λ (m : Ledger). m .anchors) e;
       roll = refl;
     }

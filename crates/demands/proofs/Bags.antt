@@ -2,19 +2,16 @@
 -- counts and all three demands hold of bags. By induction on the cases.
 -- Assumes nothing.
 use Prim.Native.Nat.{ℕ, suc}
-use mathlib.Core.Path.{_≡_, refl, ap, ap₂, _∙_}
-use mathlib.Core.Bool.{false}
+use mathlib.Core.Path.{_≡_, refl, ap, _∙_}
 use mathlib.Core.List.{List, [], _∷_, _++_, append-assoc, append-nil}
 use lib.ListN.{length}
 use Rattle.refusals.specs.declared.Answer.{Answer}
-use Rattle.refusals.specs.Rules.{isAccepted}
-use Rattle.ledger.specs.declared.Ledger.{Ledger}
 use Rattle.judge.specs.Judging.{answerOf}
-use Rattle.judge.proofs.Outcomes.{refused-ledger, refused-table}
 use Rattle.seal.specs.declared.Calibration.{Calibration}
 use Rattle.bag.specs.SealAndCases.{SoFar as Judged, soFar as judgedSoFar, withNext, judgedAll, judgedCases, allJudged, report, scannedOf, tableAfterBag, sevenAnswers}
 use Rattle.demands.specs.Histories.{judged, Held, heldAfter, heldAfterAll}
 use Rattle.demands.specs.Bags.{callsOf, answersTo, NoneAccepted, AsCalls}
+use Rattle.demands.proofs.Calls.{refused-call}
 
 -- as many answers as cases
 answers-length : (cs : List (List ℕ)) (h : Held) → length (answersTo cs h) ≡ length cs
@@ -54,12 +51,7 @@ bag-is-calls k b h =
     }
 
 -- CASES OF WHICH NONE IS ACCEPTED leave all that is held
-refused-stays : (c : List ℕ) (h : Held) → isAccepted (answerOf c (h .table) (h .roll) (h .ledger)) ≡ false → heldAfter (judged c) h ≡ h
-unfolding heldAfter
-refused-stays c h e =
-    ap₂ (λ (t : List ℕ) (l : Ledger). record { table = t; roll = h .roll; ledger = l }) (refused-table c (h .table) (h .roll) (h .ledger) e) (refused-ledger c (h .table) (h .roll) (h .ledger) e)
-
 pub none-accepted : (cs : List (List ℕ)) (h : Held) → NoneAccepted (answersTo cs h) → heldAfterAll (callsOf cs) h ≡ h
 unfolding NoneAccepted answersTo callsOf heldAfterAll
 none-accepted [] h n = refl
-none-accepted (c ∷ cs) h n = none-accepted cs (heldAfter (judged c) h) (n .1) ∙ refused-stays c h (n .0)
+none-accepted (c ∷ cs) h n = none-accepted cs (heldAfter (judged c) h) (n .1) ∙ refused-call (judged c) h (n .0)

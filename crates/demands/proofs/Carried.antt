@@ -31,7 +31,7 @@ module _ (c d t r : List ℕ) (l : Ledger) (agree : AgreeButCarried c d) where
   pub same-answer : answerOf c t r l ≡ answerOf d t r l
   same-answer =
       answer-lower c t r l
-      ∙ rw (carried-table c d agree, same-anchor, same-nullifier .0, same-nullifier .1) (sym (answer-lower d t r l))
+      ∙ rw (carried-table c d agree, same-anchor, same-nullifier .0, same-nullifier .1, same-values .0, same-values .1) (sym (answer-lower d t r l))
 
   pub same-ledger : ledgerAfterCase c t r l ≡ ledgerAfterCase d t r l
   unfolding ledgerAfterCase

@@ -17,7 +17,7 @@ module _ (tableLength rollLength : ℕ) where
       → length (q .leaves) ≡ length (p .leaves) + 2 * casesTaken tableLength rollLength h
   unfolding casesTaken withCase withBlock
   leaves-raised no-call = omega arith
-  leaves-raised {p} (case-taken {c} v room h) = omega (arith, leaves-raised h, length-append (p .leaves) (commitmentsOf c))
+  leaves-raised {p} (case-taken {c} v h) = omega (arith, leaves-raised h, length-append (p .leaves) (commitmentsOf c))
   leaves-raised (case-not-taken why h) = leaves-raised h
   leaves-raised (block-closed room h) = leaves-raised h
   leaves-raised (block-not-closed why h) = leaves-raised h
@@ -27,7 +27,7 @@ module _ (tableLength rollLength : ℕ) where
       → length (q .roots) ≡ length (p .roots) + blocksClosed tableLength rollLength h
   unfolding blocksClosed withCase withBlock
   roots-raised no-call = omega arith
-  roots-raised (case-taken v room h) = roots-raised h
+  roots-raised (case-taken v h) = roots-raised h
   roots-raised (case-not-taken why h) = roots-raised h
   roots-raised {p} (block-closed room h) = omega (arith, roots-raised h, length-append (p .roots) (treeRoot (p .leaves) ∷ []))
   roots-raised (block-not-closed why h) = roots-raised h

@@ -23,7 +23,7 @@ use Rattle.ledger.specs.declared.Order.{Order}
 use Rattle.ledger.specs.declared.Order.the-variants.{Less, Equal, Greater}
 use Rattle.ledger.specs.Sorted.{rising, isLess}
 use Rattle.ledger.specs.Rows.{byteOrder, among}
-use Rattle.ledger.specs.Ledgers.{mostAnchors, roomIn, spentRows, damage, damaged, some, no2, no3, no6, no8, closeRefusals, closedOf, rollAfterClose, openRefusals, emptyLedger, openedOf, rollAfterOpen}
+use Rattle.ledger.specs.Ledgers.{mostAnchors, roomIn, spentRows, damage, damaged, some, poolAfter, outside, no2, no3, no6, no8, no17, closeRefusals, closedOf, rollAfterClose, openRefusals, emptyLedger, openedOf, rollAfterOpen}
 use Rattle.ledger.proofs.Soundness.{among-member, member-among}
 use Rattle.ledger.proofs.Endings.{close-refused, open-refused}
 use Rattle.judge.specs.Judging.{judgeRefusals, answerOf, ledgerAfterCase, tableAfterCase}
@@ -65,7 +65,7 @@ damage-told t r l =
 module _ (c t r : List ℕ) (l : Ledger) where
   -- A CASE: row by row of the judge's table
   rows-told : Agree (judgeRefusals c t r l) (caseSentences c t r l)
-  unfolding judgeRefusals rulesIn caseSentences no1 no2 no3 no4 no5 no6 no7 no8 no9 no10 no11 no12 no13 no14 no15 no16 hasLength caseLength proofLength lengths description oldNoteLengths newNoteLengths total bothPublic aboveMoney hasTopBits outOfRange endsElsewhere unbalanced differs pathEndOf rangeOf straysOf unbalancedOf nullifierWrong addressWrong tagWrong rhoWrong commitmentWrong oldCommitmentOf hSigOf
+  unfolding judgeRefusals rulesIn caseSentences no1 no2 no3 no4 no5 no6 no7 no8 no9 no10 no11 no12 no13 no14 no15 no16 no17 outside poolAfter hasLength caseLength proofLength lengths description oldNoteLengths newNoteLengths total bothPublic aboveMoney hasTopBits outOfRange endsElsewhere unbalanced differs pathEndOf rangeOf straysOf unbalancedOf nullifierWrong addressWrong tagWrong rhoWrong commitmentWrong oldCommitmentOf hSigOf
   rows-told =
       tells-not tells-equal
       & damage-told t r l
@@ -93,6 +93,7 @@ module _ (c t r : List ℕ) (l : Ledger) where
       & tells-not same-bytes
       & tells-not same-bytes
       & tells-not same-bytes
+      & tells-either tells-below tells-below
       & done
 
   pub case-answered : AnswersBy (caseSentences c t r l) (answerOf c t r l)

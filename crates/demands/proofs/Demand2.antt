@@ -4,6 +4,7 @@ use Prim.Native.Nat.{ℕ, _+_}
 use mathlib.Core.Path.{_≡_, refl, sym, ap, _∙_}
 use mathlib.Core.Bool.{true, false, not, false≢true}
 use mathlib.Core.List.{List, List·Memᴰ}
+use native.Mathlib.Omega.{arith}
 use borrow.Author.Tests.{ltb-false, le-ltb, not-false}
 use lib.ListN.{length}
 use Rattle.refusals.specs.declared.Answer.{Answer}
@@ -11,24 +12,25 @@ use Rattle.refusals.specs.Rules.{Rule, accepted, first, None, rulesIn, numbered
 use Rattle.refusals.proofs.RuleLaws.{by-test, first-none, none-first}
 use Rattle.refusals.proofs.TwoTables.{lower-accepts}
 use Rattle.casefile.specs.Layout.{description, oldNoteLengths, newNoteLengths, lengths, total, caseLength, proofLength}
-use Rattle.casefile.specs.Fields.{anchorOf, nullifierOf}
+use Rattle.casefile.specs.Fields.{vpubOldOf, vpubNewOf, anchorOf, nullifierOf}
 use Rattle.statement.specs.CaseRefusals.{oldCommitmentOf, pathEndOf, hSigOf, caseRefusals}
 use Rattle.statement.proofs.Clauses.{Clauses, accepted-clauses, clauses-accepted}
 use Rattle.ledger.specs.declared.Ledger.{Ledger}
 use Rattle.ledger.specs.Rows.{among}
-use Rattle.ledger.specs.Ledgers.{mostNullifiers, roomIn, spentRows, anchorRows, no2, no3, no6, no8, ledgerRefusals}
+use Rattle.ledger.specs.Ledgers.{mostNullifiers, roomIn, spentRows, anchorRows, no2, no3, no6, no8, no17, ledgerRefusals}
 use Rattle.ledger.proofs.Soundness.{among-member, member-among}
+use Rattle.ledger.proofs.Pools.{inside, not-below, not-above}
 use Rattle.judge.specs.Judging.{answerOf}
-use Rattle.judge.proofs.Halves.{answer-lower}
+use Rattle.judge.proofs.Halves.{ledgersOwn, answer-lower}
 use Rattle.demands.specs.Validity.{Valid}
 
 -- the ledger's own table, and the case's
 module _ (c t r : List ℕ) (l : Ledger) where
   abbrev ledgers : List Rule
-  ledgers = ledgerRefusals t r l (anchorOf c) (nullifierOf 1 c) (nullifierOf 2 c)
+  ledgers = ledgersOwn c t r l
 
   ledger-numbers : numbered ledgers ≡ true
-  unfolding ledgerRefusals rulesIn numbered no2 no3 no6 no8
+  unfolding ledgerRefusals rulesIn numbered no2 no3 no6 no8 no17
   ledger-numbers = refl
 
   not-among : (x : List ℕ) (rows : List (List ℕ)) → among x rows ≡ false → List·Memᴰ x rows → ⊥
@@ -39,11 +41,11 @@ module _ (c t r : List ℕ) (l : Ledger) where
 
   -- a valid case passes the ledger's own table
   admits : Valid c t r l → first ledgers ≡ accepted
-  unfolding None ledgerRefusals rulesIn no2 no3 no6 no8
+  unfolding None ledgerRefusals rulesIn no2 no3 no6 no8 no17
   admits v =
       let u = v .rules .unspent in
       none-first ledgers
-      (v .undamaged, (le-ltb (roomIn mostNullifiers (length t)) (l .nullifiers + 2) (v .room), (ap not (member-among (anchorOf c) (anchorRows r l) (v .rules .anchor)), (no-member (nullifierOf 1 c) (spentRows t l) (u .0), (no-member (nullifierOf 2 c) (spentRows t l) (u .1), tt)))))
+      (v .undamaged, (le-ltb (roomIn mostNullifiers (length t)) (l .nullifiers + 2) (v .room), (ap not (member-among (anchorOf c) (anchorRows r l) (v .rules .anchor)), (no-member (nullifierOf 1 c) (spentRows t l) (u .0), (no-member (nullifierOf 2 c) (spentRows t l) (u .1), (inside (l .pool .0) (vpubOldOf c) (vpubNewOf c) (omega (arith, v .rules .pool-not-negative)) (v .pool-bounded), tt))))))
 
   -- the clauses of the case alone are the encoding, the public values, that the nullifiers differ, and the statement
   clauses-of : Valid c t r l → Clauses c
@@ -71,7 +73,7 @@ module _ (c t r : List ℕ) (l : Ledger) where
 
   -- and with what the ledger's table says of a case that passed, they make it valid
   valid-of : Clauses c → first ledgers .number ≡ 0 → Valid c t r l
-  unfolding oldCommitmentOf pathEndOf hSigOf caseLength proofLength lengths description oldNoteLengths newNoteLengths total None ledgerRefusals rulesIn no2 no3 no6 no8
+  unfolding oldCommitmentOf pathEndOf hSigOf caseLength proofLength lengths description oldNoteLengths newNoteLengths total None ledgerRefusals rulesIn no2 no3 no6 no8 no17
   valid-of k h =
       let n = first-none ledgers ledger-numbers h in
       record {
@@ -93,9 +95,11 @@ module _ (c t r : List ℕ) (l : Ledger) where
                     uniqueness-of-rho = k .rhos;
                     commitment-integrity = k .commitments;
                   };
+              pool-not-negative = omega (arith, not-below (l .pool .0) (vpubOldOf c) (vpubNewOf c) (n .1 .1 .1 .1 .1 .0));
             };
         undamaged = n .0;
         room = ltb-false (roomIn mostNullifiers (length t)) (l .nullifiers + 2) (n .1 .0);
+        pool-bounded = not-above (l .pool .0) (vpubOldOf c) (vpubNewOf c) (n .1 .1 .1 .1 .1 .0);
       }
 
   -- ACCEPTED EXACTLY WHEN VALID

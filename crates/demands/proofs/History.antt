@@ -1,14 +1,13 @@
 -- ANY RUN OF CALLS on a ledger that was opened. By the rules they lead to one past, and what is held shows it; the next case is accepted exactly when it
--- is valid after that past and there is room. A list of calls is any list, so what holds after all of them holds after each.
+-- is to be taken after that past. A list of calls is any list, so what holds after all of them holds after each.
 -- Assumes nothing.
-use Prim.Native.Nat.{ℕ, _*_, _≤_}
+use Prim.Native.Nat.{ℕ, _+_, _*_, _≤_}
 use mathlib.Core.Path.{_≡_, refl, sym, ap, ap₂, _∙_}
 use mathlib.Core.Logic.{Iff·symm, Iff·trans, ⊎-elim}
 use mathlib.Core.Bool.{true, false, true≢false}
 use mathlib.Core.List.{List, [], _∷_, _++_, List·Memᴰ, List·Memᴰ·append-cases, Memᴰ·append-left, Memᴰ·append-right}
 use native.Mathlib.Omega.{arith}
 use borrow.Author.Tests.{eqb-true, eq-eqb, lt-leb}
-use lib.IntN.{ℤ, pos, _+ℤ_, _-ℤ_}
 use lib.ListN.{length, length-append}
 use Rattle.octets.specs.Rows.{rowsOf, Long}
 use Rattle.octets.proofs.PartLaws.{pasted-length}
@@ -16,7 +15,7 @@ use Rattle.octets.proofs.RowLaws.{rows-length, long-append}
 use Rattle.refusals.specs.declared.Answer.{Answer}
 use Rattle.refusals.specs.Rules.{accepted, first, isAccepted, None, rulesIn}
 use Rattle.refusals.proofs.RuleLaws.{by-test, none-first}
-use Rattle.casefile.specs.Fields.{vpubOldOf, vpubNewOf, nullifierOf}
+use Rattle.casefile.specs.Fields.{nullifierOf}
 use Rattle.nodes.specs.CommitmentTree.{treeRoot}
 use Rattle.tree.specs.declared.Tree.{Tree}
 use Rattle.tree.specs.Record.{freshOf, grown, recordRoot}
@@ -24,13 +23,13 @@ use Rattle.tree.proofs.Grown.{record-root, root-long, grown-append}
 use Rattle.ledger.specs.declared.Ledger.{Ledger}
 use Rattle.ledger.specs.Ledgers.{mostNullifiers, mostAnchors, roomIn, spentRows, anchorRows, damaged, no2, closeRefusals, emptyLedger, openRefusals}
 use Rattle.ledger.proofs.Soundness.{Sound, sound-undamaged, at-most}
-use Rattle.ledger.proofs.Endings.{close-refused, close-passed, close-sound, close-rows, open-roomy, open-passed, open-sound, open-rows}
-use Rattle.judge.proofs.Outcomes.{refused-ledger, refused-table}
+use Rattle.ledger.proofs.Endings.{close-passed, close-sound, close-rows, open-roomy, open-passed, open-sound, open-rows}
 use Rattle.demands.specs.Validity.{JoinSplitRules}
-use Rattle.demands.specs.Histories.{Call, judged, closed, Held, spentIn, anchorsIn, answerOn, ValidOn, heldAfter, heldAfterAll, heldAtOpening, SameMembers, nullifiersOf, commitmentsOf, Past, freshPast, withCase, withBlock, ValidAfter, RoomForCase, RoomForRoot, Leads, no-call, case-taken, case-not-taken, block-closed, block-not-closed, Shows, History, NextCase}
+use Rattle.demands.specs.Histories.{Call, judged, closed, Held, spentIn, anchorsIn, answerOn, ValidOn, heldAfter, heldAfterAll, heldAtOpening, SameMembers, nullifiersOf, commitmentsOf, Past, freshPast, withCase, withBlock, Taken, RoomForRoot, Leads, no-call, case-taken, case-not-taken, block-closed, block-not-closed, Shows, History, NextCase}
 use Rattle.demands.proofs.Demand2.{accepted-valid, valid-accepted}
 use Rattle.demands.proofs.OneCase.{commitment-long, sound-then}
 use Rattle.demands.proofs.AfterOne.{after-one}
+use Rattle.demands.proofs.Calls.{refused-call}
 
 -- two sets that are the same are so with the same rows beside them
 with-more : (xs ys rows : List (List ℕ)) → SameMembers xs ys → SameMembers (xs ++ rows) (ys ++ rows)
@@ -40,10 +39,11 @@ with-more xs ys rows same z = (go xs ys (same z .0), go ys xs (same z .1))
     go us vs to m =
         ⊎-elim (λ (n : List·Memᴰ z us). Memᴰ·append-left rows (to n)) (λ (n : List·Memᴰ z rows). Memᴰ·append-right vs n) (List·Memᴰ·append-cases us m)
 
--- the rules look at no more of the nullifiers spent than which they are
-same-rules : (c : List ℕ) {roots spent : List (List ℕ)} (roots′ spent′ : List (List ℕ)) → roots ≡ roots′ → SameMembers spent spent′
-    → JoinSplitRules c roots spent → JoinSplitRules c roots′ spent′
-same-rules c roots′ spent′ e same u =
+-- the rules look at no more of the nullifiers spent than which they are, and of the pool at no more than what is in it
+same-rules : (c : List ℕ) {roots spent : List (List ℕ)} {put taken : ℕ} (roots′ spent′ : List (List ℕ)) (put′ taken′ : ℕ)
+    → roots ≡ roots′ → SameMembers spent spent′ → put + taken′ ≡ put′ + taken
+    → JoinSplitRules c roots spent put taken → JoinSplitRules c roots′ spent′ put′ taken′
+same-rules c roots′ spent′ put′ taken′ e same sums u =
     record {
       encoding = u .encoding;
       public-values = u .public-values;
@@ -51,6 +51,7 @@ same-rules c roots′ spent′ e same u =
       distinct = u .distinct;
       unspent = (λ m. u .unspent .0 (same (nullifierOf 1 c) .1 m), λ m. u .unspent .1 (same (nullifierOf 2 c) .1 m));
       statement = u .statement;
+      pool-not-negative = omega (arith, u .pool-not-negative);
     }
 
 -- how a closing is answered
@@ -60,18 +61,6 @@ closingOn b = first (closeRefusals (b .table) (b .roll) (b .ledger))
 -- no answer both refuses and accepts
 not-both : (a : Answer) → isAccepted a ≡ false → a ≡ accepted → ⊥
 not-both a h e = true≢false (sym (ap isAccepted e) ∙ h)
-
--- a refused call leaves all as it was
-untouched-case : (c : List ℕ) (b : Held) → isAccepted (answerOn c b) ≡ false → heldAfter (judged c) b ≡ b
-unfolding heldAfter
-untouched-case c b h =
-    ap₂ (λ (t : List ℕ) (l : Ledger). record { table = t; roll = b .roll; ledger = l }) (refused-table c (b .table) (b .roll) (b .ledger) h) (refused-ledger c (b .table) (b .roll) (b .ledger) h)
-
-untouched-block : (b : Held) → isAccepted (closingOn b) ≡ false → heldAfter closed b ≡ b
-unfolding heldAfter
-untouched-block b h =
-    let e = close-refused (b .table) (b .roll) (b .ledger) h in
-    ap₂ (λ (r : List ℕ) (l : Ledger). record { table = b .table; roll = r; ledger = l }) (sym (e .1)) (sym (e .0))
 
 -- on a table and a roll of some lengths, which no call changes
 module _ (tableLength rollLength : ℕ) where
@@ -85,7 +74,7 @@ module _ (tableLength rollLength : ℕ) where
     tree : b .ledger .tree ≡ grown freshOf (p .leaves)
     long : Long (p .leaves)
     anchors : anchorsIn b ≡ p .roots
-    pool : b .ledger .pool .0 ≡ p .pool
+    pool : b .ledger .pool .0 + p .taken ≡ p .put
 
   module _ (b : Held) (p : Past) (k : Kept b p) where
     -- no more leaves than the table has rows, so the tree's theorem applies
@@ -117,25 +106,30 @@ module _ (tableLength rollLength : ℕ) where
           undamaged = undamaged-still;
         }
 
-    -- A CASE is valid in memory exactly when it is valid after the past and there is room
-    from-memory : (c : List ℕ) → ValidOn c b → ValidAfter p c × RoomForCase tableLength p
+    -- A CASE is valid in memory exactly when it is to be taken after the past
+    from-memory : (c : List ℕ) → ValidOn c b → Taken tableLength p c
     from-memory c v =
         let room = v .room in
-        (same-rules c (p .roots) (p .spent) (k .anchors) (k .spent) (v .rules), rw (k .count, k .table-length) at room)
-
-    in-memory : (c : List ℕ) → ValidAfter p c → RoomForCase tableLength p → ValidOn c b
-    in-memory c v room =
         record {
-          rules = same-rules c (anchorsIn b) (spentIn b) (sym (k .anchors)) (λ z. Iff·symm (k .spent z)) v;
-          undamaged = undamaged-still;
-          room = rw (k .count, k .table-length) room;
+          valid = same-rules c (p .roots) (p .spent) (p .put) (p .taken) (k .anchors) (k .spent) (omega (arith, k .pool)) (v .rules);
+          room = rw (k .count, k .table-length) at room;
+          bounded = omega (arith, k .pool, v .pool-bounded);
         }
 
-    case-accepted : (c : List ℕ) → answerOn c b .number ≡ 0 → ValidAfter p c × RoomForCase tableLength p
+    in-memory : (c : List ℕ) → Taken tableLength p c → ValidOn c b
+    in-memory c v =
+        record {
+          rules = same-rules c (anchorsIn b) (spentIn b) (b .ledger .pool .0) 0 (sym (k .anchors)) (λ z. Iff·symm (k .spent z)) (omega (arith, k .pool)) (v .valid);
+          undamaged = undamaged-still;
+          room = rw (k .count, k .table-length) (v .room);
+          pool-bounded = omega (arith, k .pool, v .bounded);
+        }
+
+    case-accepted : (c : List ℕ) → answerOn c b .number ≡ 0 → Taken tableLength p c
     case-accepted c h = from-memory c (accepted-valid c (b .table) (b .roll) (b .ledger) h)
 
-    accepts-case : (c : List ℕ) → ValidAfter p c → RoomForCase tableLength p → answerOn c b ≡ accepted
-    accepts-case c v room = valid-accepted c (b .table) (b .roll) (b .ledger) (in-memory c v room)
+    accepts-case : (c : List ℕ) → Taken tableLength p c → answerOn c b ≡ accepted
+    accepts-case c v = valid-accepted c (b .table) (b .roll) (b .ledger) (in-memory c v)
 
     -- one that was accepted
     case-kept : (c : List ℕ) → answerOn c b .number ≡ 0 → Kept (heldAfter (judged c) b) (withCase c p)
@@ -152,7 +146,7 @@ module _ (tableLength rollLength : ℕ) where
           tree = a .tree ∙ ap (λ (u : Tree). grown u (commitmentsOf c)) (k .tree) ∙ sym (grown-append freshOf (p .leaves) (commitmentsOf c));
           long = long-append (p .leaves) (commitmentsOf c) (k .long) (commitment-long c .0, (commitment-long c .1, tt));
           anchors = ap (λ (n : ℕ). rowsOf n (b .roll)) (a .anchors) ∙ k .anchors;
-          pool = a .pool ∙ ap (λ (z : ℤ). z +ℤ pos (vpubOldOf c) -ℤ pos (vpubNewOf c)) (k .pool);
+          pool = omega (arith, a .pool, k .pool);
         }
 
     -- A BLOCK that was closed
@@ -172,7 +166,7 @@ module _ (tableLength rollLength : ℕ) where
           anchors =
               close-rows (b .table) (b .roll) (b .ledger) h (ap length rooted ∙ root-long (p .leaves))
               ∙ ap₂ (λ (rows : List (List ℕ)) (x : List ℕ). rows ++ (x ∷ [])) (k .anchors) rooted;
-          pool = ap (λ (m : Ledger). m .pool .0) e ∙ k .pool;
+          pool = ap (λ (m : Ledger). m .pool .0 + p .taken) e ∙ k .pool;
         }
 
     -- one is closed where the roll has room
@@ -205,14 +199,13 @@ module _ (tableLength rollLength : ℕ) where
       (λ e.
       let h = eqb-true (answerOn c b .number) 0 e in
       let next = reach calls (heldAfter (judged c) b) (withCase c p) (case-kept b p k c h) in
-      let v = case-accepted b p k c h in
-      record { past = next .past; leads = case-taken (v .0) (v .1) (next .leads); kept = next .kept })
+      record { past = next .past; leads = case-taken (case-accepted b p k c h) (next .leads); kept = next .kept })
       (λ e.
       let next = reach calls b p k in
       record {
         past = next .past;
-        leads = case-not-taken (λ v room. not-both (answerOn c b) e (accepts-case b p k c v room)) (next .leads);
-        kept = rw (untouched-case c b e) (next .kept);
+        leads = case-not-taken (λ v. not-both (answerOn c b) e (accepts-case b p k c v)) (next .leads);
+        kept = rw (refused-call (judged c) b e) (next .kept);
       })
   reach (closed ∷ calls) b p k =
       by-test (isAccepted (closingOn b))
@@ -225,15 +218,15 @@ module _ (tableLength rollLength : ℕ) where
       record {
         past = next .past;
         leads = block-not-closed (λ room. not-both (closingOn b) e (closes b p k room)) (next .leads);
-        kept = rw (untouched-block b e) (next .kept);
+        kept = rw (refused-call closed b e) (next .kept);
       })
 
   -- ONE PAST: from a past the same calls lead to the same past
   only-one : {p q q′ : Past} {calls : List Call} → Leads tableLength rollLength p calls q → Leads tableLength rollLength p calls q′ → q ≡ q′
   only-one no-call no-call = refl
-  only-one (case-taken v room h) (case-taken v′ room′ h′) = only-one h h′
-  only-one (case-taken v room h) (case-not-taken why h′) = absurd (why v room)
-  only-one (case-not-taken why h) (case-taken v room h′) = absurd (why v room)
+  only-one (case-taken v h) (case-taken v′ h′) = only-one h h′
+  only-one (case-taken v h) (case-not-taken why h′) = absurd (why v)
+  only-one (case-not-taken why h) (case-taken v h′) = absurd (why v)
   only-one (case-not-taken why h) (case-not-taken why′ h′) = only-one h h′
   only-one (block-closed room h) (block-closed room′ h′) = only-one h h′
   only-one (block-closed room h) (block-not-closed why h′) = absurd (why room)
@@ -256,7 +249,7 @@ fresh-kept t r h =
       tree = ap (λ (m : Ledger). m .tree) e;
       long = tt;
       anchors = open-rows t r yes;
-      pool = ap (λ (m : Ledger). m .pool .0) e;
+      pool = ap (λ (m : Ledger). m .pool .0 + 0) e;
     }
 
 -- which is any roll that has a row
@@ -286,6 +279,6 @@ module _ (calls : List Call) (t r : List ℕ) (o : first (openRefusals r) .numbe
       let zero : answerOn c b ≡ accepted → answerOn c b .number ≡ 0 = λ e. ap (λ (a : Answer). a .number) e in
       record {
         exactly =
-            (λ e. case-accepted (length t) (length r) b q k c (zero e), λ v. accepts-case (length t) (length r) b q k c (v .0) (v .1));
+            (λ e. case-accepted (length t) (length r) b q k c (zero e), λ v. accepts-case (length t) (length r) b q k c v);
         shows = λ e. shown (length t) (length r) (heldAfter (judged c) b) (withCase c q) (case-kept (length t) (length r) b q k c (zero e));
       }

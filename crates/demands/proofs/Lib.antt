@@ -1,5 +1,6 @@
 pub mod AfterOne
 pub mod Bags
+pub mod Calls
 pub mod Carried
 pub mod Counts
 pub mod Demand1
@@ -9,5 +10,6 @@ pub mod Demand3
 pub mod History
 pub mod Limits
 pub mod OneCase
+pub mod PoolSums
 pub mod Premises
 pub mod WhereSpent

@@ -10,13 +10,17 @@ use borrow.Author.Tests.{eq-eqb, le-leb, lt-leb}
 use lib.Dec.{eqb, leb}
 use lib.ListN.{length}
 use Rattle.octets.specs.Parts.{zeros, field, listed}
+use Rattle.octets.specs.Rows.{rowsOf}
 use Rattle.octets.specs.Numbers.{little, littleBytes}
 use Rattle.octets.proofs.NumberLaws.{little-bytes}
 use Rattle.octets.proofs.PartLaws.{zeros-length}
 use Rattle.units.specs.Limits.{treeLeaves}
 use Rattle.sprout.specs.Hashes.{hasTopBits}
 use Rattle.statement.specs.CaseRefusals.{aboveMoney, outOfRange, unbalanced}
-use Rattle.ledger.specs.Ledgers.{mostNullifiers, mostAnchors, roomIn}
+use Rattle.tree.specs.Record.{freshOf}
+use Rattle.ledger.specs.declared.Ledger.{Ledger}
+use Rattle.ledger.specs.Sorted.{rising}
+use Rattle.ledger.specs.Ledgers.{mostNullifiers, mostAnchors, roomIn, spentRows, poolAfter, outside, damage, some, damaged}
 use Rattle.bag.specs.Contents.{rowCount, entryOf, inOrder, laidOut}
 use Rattle.books.specs.Tally.{isFull}
 
@@ -36,6 +40,10 @@ emptyRows (suc n) kind at = (kind ∷ []) ++ littleBytes 4 at ++ littleBytes 4 0
 
 emptyBag : ℕ → List ℕ
 emptyBag n = littleBytes 2 n ++ emptyRows n 1 (2 + 9 * n)
+
+-- a fresh ledger but for its pool
+withPool : ℕ → Ledger
+withPool n = record { nullifiers = 0; anchors = 1; tree = freshOf; pool = record { 0 = n } }
 
 limits : List Bool
 limits =
@@ -62,6 +70,28 @@ limits =
     -- all money
     ∷ not (aboveMoney 2100000000000000)
     ∷ aboveMoney 2100000000000001
+    -- the pool: from zero
+    ∷ not (outside 0 0 0)
+    ∷ not (outside 0 1 1)
+    ∷ outside 0 0 1
+    ∷ outside 0 1 2
+    ∷ not (outside 7 0 7)
+    ∷ outside 7 0 8
+    -- to all money
+    ∷ not (outside 2099999999999999 1 0)
+    ∷ outside 2099999999999999 2 0
+    ∷ not (outside 2100000000000000 0 0)
+    ∷ outside 2100000000000000 1 0
+    ∷ not (outside 2100000000000000 1 1)
+    ∷ not (outside 0 2100000000000000 0)
+    ∷ outside 0 2100000000000001 0
+    ∷ not (outside 2100000000000000 0 2100000000000000)
+    -- a pool that is no damage
+    ∷ not (damaged [] (zeros 32) (withPool 0))
+    ∷ not (damaged [] (zeros 32) (withPool 2100000000000000))
+    ∷ damaged [] (zeros 32) (withPool 2100000000000001)
+    ∷ damaged [] (zeros 32) (withPool 9223372036854775808)
+    ∷ damaged [] (zeros 32) (withPool 18446744073709551615)
     -- a side of the balance, below 2^64, whatever it is the sum of
     ∷ not (unbalanced 0 18446744073709551615 0 0 0 18446744073709551615)
     ∷ not (unbalanced 1 0 18446744073709551614 0 18446744073709551615 0)
@@ -82,7 +112,7 @@ limits =
     ∷ []
 
 all-limits : every limits ≡ true
-unfolding every holds emptyRows emptyBag limits roomIn hasTopBits outOfRange aboveMoney unbalanced laidOut rowCount entryOf inOrder field listed little littleBytes
+unfolding every holds emptyRows emptyBag limits roomIn hasTopBits outOfRange aboveMoney poolAfter outside damaged damage some spentRows withPool freshOf rowsOf rising unbalanced laidOut rowCount entryOf inOrder field listed little littleBytes
 all-limits = refl
 
 -- A BAG'S BYTES, 65,536 at most: of a bag with nothing but a seal's body of n zeros, which keeps to the layout in all else, that alone decides

@@ -1,16 +1,13 @@
 -- What one accepted case finds and leaves: the facts that the second and the third demand share.
 -- Assumes nothing.
-use Prim.Native.Nat.{ℕ, _+_, _≤_}
+use Prim.Native.Nat.{ℕ, _+_}
 use mathlib.Core.Path.{_≡_}
-use mathlib.Core.Logic.{⊎-elim}
 use mathlib.Core.Bool.{true, false}
 use mathlib.Core.List.{List}
-use native.Mathlib.Omega.{arith}
 use borrow.Author.Tests.{eq-eqb}
 use lib.ListN.{length}
 use Rattle.octets.specs.Parts.{same}
 use Rattle.octets.proofs.PartLaws.{field-length}
-use Rattle.units.specs.Limits.{maxMoney}
 use Rattle.units.specs.Pairs.{ForBoth}
 use Rattle.casefile.specs.Layout.{description, oldNoteLengths, newNoteLengths, lengths, proofLength, partOf}
 use Rattle.casefile.specs.Fields.{vpubOldOf, vpubNewOf, nullifierOf, commitmentOf}
@@ -19,11 +16,12 @@ use Rattle.ledger.specs.Sorted.{insert}
 use Rattle.ledger.specs.Rows.{byteOrder, tableWithTwo, among}
 use Rattle.ledger.specs.Ledgers.{spentRows, enteredOf, Ready}
 use Rattle.ledger.proofs.Soundness.{Sound, undamaged}
+use Rattle.ledger.proofs.Pools.{pool-sum}
 use Rattle.ledger.proofs.Entering.{table-length, rows-after, sound-after, among-other, among-first, among-second}
 use Rattle.judge.specs.Judging.{answerOf, ledgerAfterCase, tableAfterCase}
-use Rattle.judge.proofs.Outcomes.{accepted-front, accepted-ledger, accepted-table}
+use Rattle.judge.proofs.Outcomes.{accepted-ledger, accepted-table}
 use Rattle.judge.proofs.Readiness.{ready}
-use Rattle.demands.specs.Validity.{PublicValues, Valid}
+use Rattle.demands.specs.Validity.{Valid}
 use Rattle.demands.proofs.Demand2.{accepted-valid}
 
 -- a nullifier and a commitment have 32 bytes
@@ -35,13 +33,6 @@ pub commitment-long : (c : List ℕ) → ForBoth (λ i. length (commitmentOf i c
 unfolding commitmentOf partOf proofLength lengths description oldNoteLengths newNoteLengths
 commitment-long c = (field-length _ 32 c, field-length _ 32 c)
 
--- the public values move the pool by no more than all money
-moved : (c : List ℕ) → PublicValues c → vpubOldOf c + vpubNewOf c ≤ maxMoney
-moved c v =
-    let a = v .old-money in
-    let b = v .new-money in
-    ⊎-elim (λ (e : vpubOldOf c ≡ 0). omega arith) (λ (e : vpubNewOf c ≡ 0). omega arith) (v .one-sided)
-
 module _ (c t r : List ℕ) (l : Ledger) (h : answerOf c t r l .number ≡ 0) where
   valid : Valid c t r l
   valid = accepted-valid c t r l h
@@ -50,7 +41,7 @@ module _ (c t r : List ℕ) (l : Ledger) (h : answerOf c t r l .number ≡ 0) wh
   sound-before = undamaged t r l (valid .undamaged)
 
   pub ready-before : Ready t l (nullifierOf 1 c) (nullifierOf 2 c) (vpubOldOf c) (vpubNewOf c)
-  ready-before = ready c t r l (accepted-front c t r l h)
+  ready-before = ready c t r l h
 
   pub table-is : tableAfterCase c t r l ≡ tableWithTwo (l .nullifiers) t (nullifierOf 1 c) (nullifierOf 2 c)
   table-is = accepted-table c t r l (eq-eqb (answerOf c t r l .number) 0 h)
@@ -65,7 +56,12 @@ module _ (c t r : List ℕ) (l : Ledger) (h : answerOf c t r l .number ≡ 0) wh
   rows-then = rw (table-is, ledger-is) (rows-after t r l (nullifierOf 1 c) (nullifierOf 2 c) (commitmentOf 1 c) (commitmentOf 2 c) (vpubOldOf c) (vpubNewOf c) sound-before ready-before (nullifier-long c .0) (nullifier-long c .1))
 
   pub sound-then : Sound (tableAfterCase c t r l) r (ledgerAfterCase c t r l)
-  sound-then = rw (table-is, ledger-is) (sound-after t r l (nullifierOf 1 c) (nullifierOf 2 c) (commitmentOf 1 c) (commitmentOf 2 c) (vpubOldOf c) (vpubNewOf c) sound-before ready-before (nullifier-long c .0) (nullifier-long c .1) (moved c (valid .rules .public-values)))
+  sound-then = rw (table-is, ledger-is) (sound-after t r l (nullifierOf 1 c) (nullifierOf 2 c) (commitmentOf 1 c) (commitmentOf 2 c) (vpubOldOf c) (vpubNewOf c) sound-before ready-before (nullifier-long c .0) (nullifier-long c .1))
+
+  -- the pool, by sums
+  pub pool-then : ledgerAfterCase c t r l .pool .0 + vpubNewOf c ≡ l .pool .0 + vpubOldOf c
+  unfolding enteredOf
+  pool-then = rw ledger-is (pool-sum (l .pool .0) (vpubOldOf c) (vpubNewOf c) (ready-before .pool))
 
   -- another row is in the table as before, and the two nullifiers are in it now
   pub other-then : (z : List ℕ) → same (nullifierOf 1 c) z ≡ false → same (nullifierOf 2 c) z ≡ false

@@ -2,5 +2,6 @@ pub mod BagRefusals
 pub mod Bags
 pub mod Histories
 pub mod Pairs
+pub mod Pools
 pub mod Refusals
 pub mod Validity

@@ -4,14 +4,16 @@
 use Prim.Native.Nat.{ℕ, _+_, _<_, _≤_}
 use mathlib.Core.Path.{_≡_}
 use mathlib.Core.Logic.{_⊎_}
-use mathlib.Core.Bool.{true}
+use mathlib.Core.Bool.{true, cond}
 use mathlib.Core.List.{List, _++_, List·Memᴰ}
 use lib.ListN.{length}
+use Rattle.units.specs.Limits.{maxMoney}
 use Rattle.units.specs.Pairs.{ForBoth}
 use Rattle.refusals.specs.Rules.{answer, withoutRow, accepted}
-use Rattle.casefile.specs.Fields.{hasLength, nullifierOf}
+use Rattle.casefile.specs.Fields.{hasLength, vpubOldOf, vpubNewOf, nullifierOf}
 use Rattle.tree.specs.Record.{grown}
 use Rattle.ledger.specs.Ledgers.{mostNullifiers, roomIn}
+use Rattle.demands.specs.Refusals.{OutOfBounds}
 use Rattle.demands.specs.Histories.{judged, Held, spentIn, heldAfter, answerOn, ValidOn, commitmentsOf}
 
 -- they share no nullifier; a file of the wrong length has none
@@ -34,12 +36,32 @@ pub data LowestShared (c d : List ℕ) : ℕ → Type 0 where
 abbrev pub RoomForTwo : Held → Type 0
 RoomForTwo b = b .ledger .nullifiers + 4 ≤ roomIn mostNullifiers (length (b .table))
 
--- what these two premises come to, of a ledger that c has been entered in: refusal 3 does not apply, and refusal 8 does not apply to d
+-- what a case asks to put into the pool and to take out of it, whether it is accepted or not; a file of the wrong length asks for nothing
+abbrev pub putIn : List ℕ → ℕ
+putIn c = cond (hasLength c) (vpubOldOf c) 0
+
+abbrev pub takenOut : List ℕ → ℕ
+takenOut c = cond (hasLength c) (vpubNewOf c) 0
+
+-- a pool with so much put in and so much taken out is from zero to all money
+abbrev pub InBounds : ℕ → ℕ → ℕ → Type 0
+InBounds pool put taken = (taken ≤ pool + put) × (pool + put ≤ taken + maxMoney)
+
+-- the pool stays in its bounds with the change that either asks for, taken alone, and with both
+pub record PoolForTwo (c d : List ℕ) (b : Held) : Type 0 where
+  pub with-c : InBounds (b .ledger .pool .0) (putIn c) (takenOut c)
+  pub with-d : InBounds (b .ledger .pool .0) (putIn d) (takenOut d)
+  pub with-both : InBounds (b .ledger .pool .0) (putIn c + putIn d) (takenOut c + takenOut d)
+
+-- what these three premises come to, of a ledger that c has been entered in: refusal 3 does not apply, and refusals 8 and 17 do not apply to d
 abbrev pub HasRoom : Held → Type 0
 HasRoom b = roomIn mostNullifiers (length (b .table)) < b .ledger .nullifiers + 2 → ⊥
 
 abbrev pub NoneSpent : List ℕ → Held → Type 0
 NoneSpent d b = ForBoth (λ i. List·Memᴰ (nullifierOf i d) (spentIn b) → ⊥)
+
+abbrev pub PoolTakes : List ℕ → Held → Type 0
+PoolTakes d b = OutOfBounds d (b .ledger) → ⊥
 
 -- what is held after c and then d
 abbrev pub afterBoth : List ℕ → List ℕ → Held → Held
@@ -71,7 +93,7 @@ pub record OrderFree (c d : List ℕ) (b : Held) : Type 0 where
   pub d-second : withoutRow (answerOn d (heldAfter (judged c) b)) ≡ withoutRow (answerOn d b)
   pub both : ValidOn c b → ValidOn d b → BothPass c d b
 
--- ONE OF TWO: c passes, and d after it is refused with 8, at its lowest place that c spent
+-- ONE OF TWO: c passes, and d after it is refused with 8, at its lowest place that c spent. The pool is asked about after that, so nothing is premised of it
 pub record OneOfTwo (c d : List ℕ) (b : Held) : Type 0 where
   pub c-passes : answerOn c b ≡ accepted
   pub place : ℕ

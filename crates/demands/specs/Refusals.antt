@@ -2,11 +2,10 @@
 -- place are given; that the first that holds is the answer is demand 1. c is the case's bytes, t the nullifier table's, r the anchor roll's, l the ledger's
 -- counts, record and pool. i is 1 or 2.
 -- Assumes nothing.
-use Prim.Native.Nat.{ℕ, _+_, _-_, _*_, _/_, _%_, _^_, _<_, _≤_}
+use Prim.Native.Nat.{ℕ, _+_, _-_, _%_, _^_, _<_, _≤_}
 use mathlib.Core.Path.{_≡_}
 use mathlib.Core.Logic.{_⊎_}
 use mathlib.Core.List.{List, [], _∷_, List·Memᴰ}
-use lib.IntN.{natAbs}
 use lib.ListN.{length}
 use Rattle.units.specs.Limits.{maxMoney, treeLeaves}
 use Rattle.refusals.specs.declared.Answer.{Answer}
@@ -36,7 +35,7 @@ Damaged t r l =
     ∷ (l .tree .leaves ≡ l .nullifiers → ⊥)
     ∷ (l .anchors ≡ 0)
     ∷ (roomIn mostAnchors (length r) < l .anchors)
-    ∷ (l .nullifiers / 2 * maxMoney < natAbs (l .pool .0))
+    ∷ (maxMoney < l .pool .0)
     ∷ [])
 
 -- A CASE. Key or position i is out of range; old note i has value and its path does not lead to the anchor
@@ -45,6 +44,10 @@ OutOfRange c i = (LeavesFree (oldKeyOf i c) → ⊥) ⊎ (treeLeaves ≤ oldPosi
 
 abbrev pub Strays : List ℕ → ℕ → Type 0
 Strays c i = (oldValueOf i c ≡ 0 → ⊥) × (pathEnd (oldNote i c) (oldPositionOf i c) (oldPathOf i c) ≡ anchorOf c → ⊥)
+
+-- with it the pool would be below zero, or above all money
+abbrev pub OutOfBounds : List ℕ → Ledger → Type 0
+OutOfBounds c l = (l .pool .0 + vpubOldOf c < vpubNewOf c) ⊎ (maxMoney < l .pool .0 + vpubOldOf c - vpubNewOf c)
 
 unfoldable pub caseSentences : List ℕ → List ℕ → List ℕ → Ledger → List Sentence
 caseSentences c t r l =
@@ -74,6 +77,7 @@ caseSentences c t r l =
     ∷ refuse 15 2 (newRhoOf 2 c ≡ rhoFrom 2 (phiOf c) (hSig c) → ⊥)
     ∷ refuse 16 1 (commitmentOf 1 c ≡ newNote 1 c → ⊥)
     ∷ refuse 16 2 (commitmentOf 2 c ≡ newNote 2 c → ⊥)
+    ∷ refuse 17 0 (OutOfBounds c l)
     ∷ []
 
 -- WHERE A NULLIFIER STANDS that was spent before: row k of the table is in use and is x, and no other row in use is
@@ -101,6 +105,7 @@ allPlaces =
     ∷ answer 14 1 ∷ answer 14 2
     ∷ answer 15 1 ∷ answer 15 2
     ∷ answer 16 1 ∷ answer 16 2
+    ∷ answer 17 0
     ∷ []
 
 -- CLOSING A BLOCK: damage, then a roll with no free row

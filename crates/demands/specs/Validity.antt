@@ -59,17 +59,21 @@ pub record PublicValues (c : List ℕ) : Type 0 where
   pub old-money : vpubOldOf c ≤ maxMoney
   pub new-money : vpubNewOf c ≤ maxMoney
 
--- THE PUBLIC RULES, over the roots that an anchor may be and the nullifiers that were spent: nothing of memory, room or damage
-pub record JoinSplitRules (c : List ℕ) (roots spent : List (List ℕ)) : Type 0 where
+-- THE PUBLIC RULES, over the roots that an anchor may be, the nullifiers that were spent, and all that was put into the pool and all that was taken out of
+-- it: nothing of memory, room or damage. With this case no more has been taken out than was put in (ZIP 209)
+pub record JoinSplitRules (c : List ℕ) (roots spent : List (List ℕ)) (put taken : ℕ) : Type 0 where
   pub encoding : Encoded c
   pub public-values : PublicValues c
   pub anchor : List·Memᴰ (anchorOf c) roots
   pub distinct : nullifierOf 1 c ≡ nullifierOf 2 c → ⊥
   pub unspent : ForBoth (λ i. List·Memᴰ (nullifierOf i c) spent → ⊥)
   pub statement : Statement c
+  pub pool-not-negative : taken + vpubNewOf c ≤ put + vpubOldOf c
 
--- THE SAME IN MEMORY, on the rows of a roll and of a table, with what the house asks beside: an undamaged ledger, and room for both nullifiers
+-- THE SAME IN MEMORY, on the rows of a roll and of a table and on a pool, of which all was put in and nothing taken. With what the house asks beside: an
+-- undamaged ledger, and room for both nullifiers; and with the client's own rule, that the pool is no more than all money
 pub record Valid (c t r : List ℕ) (l : Ledger) : Type 0 where
-  pub rules : JoinSplitRules c (anchorRows r l) (spentRows t l)
+  pub rules : JoinSplitRules c (anchorRows r l) (spentRows t l) (l .pool .0) 0
   pub undamaged : damaged t r l ≡ false
   pub room : l .nullifiers + 2 ≤ roomIn mostNullifiers (length t)
+  pub pool-bounded : l .pool .0 + vpubOldOf c ≤ vpubNewOf c + maxMoney

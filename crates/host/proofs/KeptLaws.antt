@@ -17,7 +17,6 @@ use Rattle.tree.proofs.Grown.{grown-long}
 use Rattle.casefile.specs.Fields.{commitmentOf}
 use Rattle.ledger.specs.declared.Ledger.{Ledger}
 use Rattle.ledger.specs.Ledgers.{mostNullifiers, mostAnchors, openRefusals, openedOf, emptyLedger, enteredOf, no2, closeRefusals, closedOf, rollAfterClose}
-use Rattle.ledger.proofs.Signed.{mag-abs}
 use Rattle.ledger.proofs.Soundness.{Sound, undamaged, at-most}
 use Rattle.ledger.proofs.Endings.{open-refused, open-passed, close-refused, close-passed, close-sound}
 use Rattle.ledgerbytes.specs.LedgerBytes.{isWhole, ledgerOf, bufferAfterWrite, Fits}
@@ -42,7 +41,7 @@ sound-fits t r l s n =
     record {
       nullifiers = omega arith;
       anchors = omega arith;
-      pool = omega (arith, mag-abs (l .pool .0), s .pool);
+      pool = omega (arith, s .pool);
       leaves = omega (arith, s .leaves);
       nodes = n;
     }

@@ -20,7 +20,7 @@ use Rattle.seal.specs.Pull.{judgeOf, sealAnswer}
 use Rattle.tree.specs.Record.{freshOf}
 use Rattle.ledger.specs.Ledgers.{emptyLedger}
 use Rattle.ledger.proofs.Endings.{open-refused, close-refused}
-use Rattle.ledgerbytes.specs.LedgerBytes.{isWhole, ledgerOf, bitsOf, headOf, ledgerBytes, bufferAfterWrite}
+use Rattle.ledgerbytes.specs.LedgerBytes.{isWhole, ledgerOf, headOf, ledgerBytes, bufferAfterWrite}
 use Rattle.ledgerbytes.proofs.KeepingLaws.{written-read}
 use Rattle.judge.specs.Judging.{answerOf}
 use Rattle.judge.proofs.Outcomes.{refused-table}
@@ -61,7 +61,7 @@ unfolding bufferAfterWrite
 open-leaves-ledger s r w = rw w
 
 no-ledger : ledgerBytes (emptyLedger 0) ≡ zeros 988
-unfolding ledgerBytes headOf emptyLedger freshOf bitsOf littleBytes
+unfolding ledgerBytes headOf emptyLedger freshOf littleBytes
 no-ledger = refl
 
 pub open-zeros : (s r : List ℕ) → isWhole s ≡ true → isAccepted (openAnswer s r) ≡ false → ledgerAfterOpenCall s r ≡ zeros 988

@@ -9,14 +9,14 @@ use lib.ListN.{length}
 use Rattle.refusals.specs.Rules.{None, rulesIn, first, numbered, isAccepted}
 use Rattle.refusals.proofs.RuleLaws.{first-none}
 use Rattle.ledger.specs.declared.Ledger.{Ledger}
-use Rattle.ledger.specs.Ledgers.{mostAnchors, roomIn, spentRows, anchorRows, damage, damaged, no2, no3, no6, no8, closeRefusals}
+use Rattle.ledger.specs.Ledgers.{mostAnchors, roomIn, spentRows, anchorRows, damage, damaged, no2, no3, no6, no8, no17, closeRefusals}
 use Rattle.ledgerbytes.specs.declared.Counts.{Counts}
 use Rattle.ledgerbytes.specs.LedgerBytes.{countsOf, bare}
 use Rattle.judge.specs.Judging.{judgeRefusals, answerOf}
 
 module _ (t r : List ℕ) (l : Ledger) (k : Counts) (q : k ≡ countsOf l) where
   pub answered-bare : (c : List ℕ) → answerOf c t r (bare k) ≡ answerOf c t r l
-  unfolding answerOf judgeRefusals no2 no3 no6 no8 damaged damage spentRows anchorRows
+  unfolding answerOf judgeRefusals no2 no3 no6 no8 no17 damaged damage spentRows anchorRows
   answered-bare c = ap (λ (x : Counts). answerOf c t r (bare x)) q
 
   pub closing-bare : first (closeRefusals t r (bare k)) ≡ first (closeRefusals t r l)

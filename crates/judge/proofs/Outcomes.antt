@@ -3,11 +3,10 @@
 use Prim.Native.Nat.{ℕ}
 use mathlib.Core.Path.{_≡_, sym, ap, _∙_}
 use mathlib.Core.Bool.{Bool, true, false, not}
-use mathlib.Core.List.{List, _++_}
-use borrow.Author.Tests.{eqb-true}
+use mathlib.Core.List.{List, [], _∷_, _++_}
 use Rattle.refusals.specs.declared.Answer.{Answer}
-use Rattle.refusals.specs.Rules.{Rule, rulesIn, first, answer, isAccepted}
-use Rattle.refusals.proofs.RuleLaws.{by-test, first-refused, rows-append, run-stops, run-goes-on}
+use Rattle.refusals.specs.Rules.{rulesIn, first, answer, isAccepted}
+use Rattle.refusals.proofs.RuleLaws.{run-stops, run-goes-on, last-group}
 use Rattle.casefile.specs.Fields.{hasLength, vpubOldOf, vpubNewOf, nullifierOf, commitmentOf}
 use Rattle.statement.specs.CaseRefusals.{no1, witnessRefusals}
 use Rattle.ledger.specs.declared.Ledger.{Ledger}
@@ -17,7 +16,7 @@ use Rattle.ledger.specs.Ledgers.{enteredOf}
 use Rattle.ledgerbytes.specs.LedgerBytes.{bufferAfterWrite}
 use Rattle.judge.specs.Judging.{judgeRefusals, frontRefusals, answerOf, ledgerAfterCase, tableAfterCase, judgedOf}
 use Rattle.judge.specs.Kept.{keptAfter}
-use Rattle.judge.proofs.Halves.{front-numbers, halves}
+use Rattle.judge.proofs.Halves.{poolRefusals, front-numbers, behind-front, witness-numbers}
 
 module _ (c t r : List ℕ) (l : Ledger) where
   -- the length decides before all else
@@ -25,25 +24,27 @@ module _ (c t r : List ℕ) (l : Ledger) where
   unfolding answerOf judgeRefusals rulesIn no1 first
   length-decides h = rw h
 
-  -- the half that needs no hash decides, or the witness does
+  -- the half that needs no hash decides, or what comes behind it
   module _ (a : Answer) (b : Bool) (e : a ≡ first (rulesIn (frontRefusals c t r l))) (q : b ≡ isAccepted a) where
     pub front-decides : not b ≡ true → a ≡ answerOf c t r l
     unfolding answerOf
-    front-decides h = run-stops (frontRefusals c t r l) (witnessRefusals c) a b e q h ∙ ap first (sym (halves c t r l))
+    front-decides h = run-stops (frontRefusals c t r l) (witnessRefusals c ++ (poolRefusals c l ∷ [])) a b e q h ∙ ap first (sym (behind-front c t r l))
 
-    pub witness-decides : not b ≡ false → answerOf c t r l ≡ first (rulesIn (witnessRefusals c))
+    behind : not b ≡ false → answerOf c t r l ≡ first (rulesIn (witnessRefusals c ++ (poolRefusals c l ∷ [])))
     unfolding answerOf
-    witness-decides h = ap first (halves c t r l) ∙ run-goes-on (frontRefusals c t r l) (witnessRefusals c) a b e q (front-numbers c t r l) h
+    behind h =
+        ap first (behind-front c t r l)
+        ∙ run-goes-on (frontRefusals c t r l) (witnessRefusals c ++ (poolRefusals c l ∷ [])) a b e q (front-numbers c t r l) h
 
-  -- an accepted case passed the half that needs no hash
-  pub accepted-front : answerOf c t r l .number ≡ 0 → first (rulesIn (frontRefusals c t r l)) .number ≡ 0
-  unfolding answerOf
-  accepted-front h =
-      let whole : first (rulesIn (frontRefusals c t r l) ++ rulesIn (witnessRefusals c)) .number ≡ 0 =
-      ap (λ (rows : List Rule). first rows .number) (sym (halves c t r l ∙ rows-append (frontRefusals c t r l) (witnessRefusals c))) ∙ h in
-      by-test (isAccepted (first (rulesIn (frontRefusals c t r l))))
-      (λ e. eqb-true (first (rulesIn (frontRefusals c t r l)) .number) 0 e)
-      (λ e. ap (λ (a : Answer). a .number) (sym (first-refused (rulesIn (frontRefusals c t r l)) (rulesIn (witnessRefusals c)) e)) ∙ whole)
+    -- the witness decides, or the pool does
+    module _ (p : not b ≡ false) (a′ : Answer) (b′ : Bool) (e′ : a′ ≡ first (rulesIn (witnessRefusals c))) (q′ : b′ ≡ isAccepted a′) where
+      pub witness-decides : not b′ ≡ true → a′ ≡ answerOf c t r l
+      witness-decides h = run-stops (witnessRefusals c) (poolRefusals c l ∷ []) a′ b′ e′ q′ h ∙ sym (behind p)
+
+      pub pool-decides : not b′ ≡ false → first (poolRefusals c l) ≡ answerOf c t r l
+      pool-decides h =
+          last-group (poolRefusals c l)
+          ∙ sym (behind p ∙ run-goes-on (witnessRefusals c) (poolRefusals c l ∷ []) a′ b′ e′ q′ (witness-numbers c t r l) h)
 
   -- a refusal leaves everything
   pub refused-ledger : isAccepted (answerOf c t r l) ≡ false → ledgerAfterCase c t r l ≡ l

@@ -16,7 +16,7 @@ use Rattle.casefile.specs.Fields.{hasLength, nullifierOf}
 use Rattle.statement.specs.CaseRefusals.{no1, no4, no5, no7, no9, no10, no11, no12, no13, no14, no15, no16}
 use Rattle.ledger.specs.declared.Ledger.{Ledger}
 use Rattle.ledger.specs.Rows.{among, rowNumberOf}
-use Rattle.ledger.specs.Ledgers.{mostNullifiers, spentRows, damaged, no2, no3, no6, no8}
+use Rattle.ledger.specs.Ledgers.{mostNullifiers, spentRows, damaged, no2, no3, no6, no8, no17}
 use Rattle.ledger.proofs.Soundness.{Sound, undamaged, at-most}
 use Rattle.ledger.proofs.Spent.{row-used}
 use Rattle.judge.specs.Judging.{judgeRefusals, answerOf}
@@ -25,7 +25,7 @@ use Rattle.judge.proofs.Outcomes.{length-decides}
 module _ (c t r : List ℕ) (l : Ledger) where
   -- OTHER NUMBERS
   only-eight : onlyWith 8 (judgeRefusals c t r l) ≡ true
-  unfolding judgeRefusals rulesIn onlyWith no1 no2 no3 no4 no5 no6 no7 no8 no9 no10 no11 no12 no13 no14 no15 no16
+  unfolding judgeRefusals rulesIn onlyWith no1 no2 no3 no4 no5 no6 no7 no8 no9 no10 no11 no12 no13 no14 no15 no16 no17
   only-eight = refl
 
   pub other-rows : (answerOf c t r l .number ≡ 8 → ⊥) → answerOf c t r l .row .0 ≡ 0
@@ -38,7 +38,7 @@ module _ (c t r : List ℕ) (l : Ledger) where
   damage-decides h k = rw (h, k)
 
   eights : only 8 (judgeRefusals c t r l) ≡ no8 t l (nullifierOf 1 c) (nullifierOf 2 c)
-  unfolding judgeRefusals rulesIn only no1 no2 no3 no4 no5 no6 no7 no8 no9 no10 no11 no12 no13 no14 no15 no16
+  unfolding judgeRefusals rulesIn only no1 no2 no3 no4 no5 no6 no7 no8 no9 no10 no11 no12 no13 no14 no15 no16 no17
   eights = refl
 
   module _ (h : answerOf c t r l .number ≡ 8) where

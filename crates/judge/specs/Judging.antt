@@ -11,7 +11,7 @@ use Rattle.statement.specs.CaseRefusals.{no1, no4, no5, no7, no9, no10, no11, n
 use Rattle.ledger.specs.declared.Ledger.{Ledger}
 use Rattle.ledger.specs.declared.Answered.{Answered}
 use Rattle.ledger.specs.Rows.{tableWithTwo}
-use Rattle.ledger.specs.Ledgers.{no2, no3, no6, no8, enteredOf}
+use Rattle.ledger.specs.Ledgers.{no2, no3, no6, no8, no17, enteredOf}
 
 -- THE TABLE OF REFUSALS, in the order of the numbers. i is 1 or 2, the place where one is told
 unfoldable pub judgeRefusals : List ℕ → List ℕ → List ℕ → Ledger → List Rule
@@ -33,6 +33,7 @@ judgeRefusals c t r l =
     ∷ no14 c  -- tag i is wrong
     ∷ no15 c  -- new rho i is wrong
     ∷ no16 c  -- commitment i is wrong
+    ∷ no17 (l .pool .0) (vpubOldOf c) (vpubNewOf c)  -- acceptance would take the pool below zero or above all money
     ∷ [])
 
 -- its first half, which needs no hash

@@ -1,7 +1,8 @@
 // What the ledger says of a case's public part, before the case is entered: damage, room, anchor,
-// nullifiers; and what that part says for itself, between these. Of the ledger this needs its counts alone,
+// nullifiers and, after the witness, the pool; and what that part says for itself, between these. Of the ledger this needs its counts alone,
 // so that a refusal never reads the tree's nodes, and a field of the case is read when it is asked about.
 // How the lent rows are walked is left to table.rt and roll.rt.
+use crate::money::is_outside;
 use crate::roll::stands_on;
 use crate::table::is_rising;
 use crate::table::search;
@@ -10,7 +11,6 @@ use ledger::MOST_ANCHORS;
 use ledger::MOST_NULLIFIERS;
 use ledgerbytes::Counts;
 use refusals::Answer;
-use units::ALL_MONEY;
 use units::Which;
 ghost use mathlib.Core.Path.{_≡_};
 ghost use mathlib.Core.Bool.{true};
@@ -18,10 +18,10 @@ ghost use Prim.Native.Nat.{_*_, _≤_};
 ghost use lib.ListN.{length};
 ghost use Rattle.refusals.specs.Rules.{first, rulesIn};
 ghost use Rattle.units.specs.Pairs.{numberOf};
-ghost use Rattle.casefile.specs.Fields.{hasLength, anchorOf, nullifierOf};
+ghost use Rattle.casefile.specs.Fields.{hasLength, vpubOldOf, vpubNewOf, anchorOf, nullifierOf};
 ghost use Rattle.ledger.specs.Sorted.{rising, find};
 ghost use Rattle.ledger.specs.Rows.{byteOrder};
-ghost use Rattle.ledger.specs.Ledgers.{roomIn, spentRows, damaged, no2, no3, no6, no8};
+ghost use Rattle.ledger.specs.Ledgers.{roomIn, spentRows, damaged, no2, no3, no6, no8, no17};
 ghost use Rattle.ledgerbytes.specs.LedgerBytes.{bare};
 ghost use Rattle.judge.specs.Judging.{frontRefusals};
 
@@ -54,7 +54,7 @@ fn is_damaged(table: &[u8], roll: &[u8], counts: Counts) -> bool
     if room_in(MOST_ANCHORS, roll.len()) < a {
         return true;
     }
-    if (n as u64) / 2 * ALL_MONEY < counts.pool.size() {
+    if !counts.pool.is_money() {
         return true;
     }
     !is_rising(table, n)
@@ -128,6 +128,19 @@ fn are_unspent(table: &[u8], counts: Counts, case: &[u8]) -> Answer
     match two {
         Found::At(row) => Answer::refused_in_row(8, 2, row),
         Found::Gap(_) => Answer::accepted(),
+    }
+}
+
+// 17
+pub fn stays_within(counts: Counts, case: &[u8]) -> Answer
+    ensures { λ r. ⌜ r ≡ first (no17 (counts .pool .0) (vpubOldOf (now (case .entry))) (vpubNewOf (now (case .entry)))) ⌝ }
+{
+    let old = casefile::vpub_old(case);
+    let new = casefile::vpub_new(case);
+    if is_outside(counts.pool, old, new) {
+        Answer::refused(17, 0)
+    } else {
+        Answer::accepted()
     }
 }
 

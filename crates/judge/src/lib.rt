@@ -27,11 +27,11 @@ use asking::sound;
 use ledger::Answered;
 use ledger::Ledger;
 use ledger::MOST_ANCHORS;
-use ledger::Pool;
 use ledgerbytes::Counts;
 use refusals::Answer;
 use rows::start_of;
 use tree::Tree;
+use units::Amount;
 use units::Row;
 use units::Which;
 
@@ -43,7 +43,7 @@ fn start(anchors: usize) -> Ledger
         nullifiers: 0,
         anchors: anchors,
         tree: Tree::fresh(),
-        pool: Pool(0),
+        pool: Amount::of(0),
     }
 }
 
@@ -166,8 +166,9 @@ fn entered(case: &[u8], table: &mut [u8], ledger: Ledger) -> Ledger
     )
 }
 
-// The answer to a case: what its public part and the ledger say, and then its witness. The length is asked
-// first of all, so that all the rest is compiled for a case of that length.
+// The answer to a case: what its public part and the ledger say, then its witness, and last whether the pool
+// stays in its bounds. The length is asked first of all, so that all the rest is compiled for a case of that
+// length.
 fn answered(case: &[u8], table: &[u8], roll: &[u8], counts: Counts) -> Answer
     ensures { λ r. ⌜ r ≡ answerOf (now (case .entry)) (now (table .entry)) (now (roll .entry)) (bare counts) ⌝ }
 {
@@ -178,7 +179,11 @@ fn answered(case: &[u8], table: &[u8], roll: &[u8], counts: Counts) -> Answer
     if !front.is_accepted() {
         return front;
     }
-    statement::witness(case)
+    let behind = statement::witness(case);
+    if !behind.is_accepted() {
+        return behind;
+    }
+    asking::stays_within(counts, case)
 }
 
 // Judges a case; an accepted one is entered.

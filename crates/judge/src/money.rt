@@ -1,33 +1,38 @@
-// The pool's arithmetic: a signed number and amounts, exact. That nothing leaves the range is required
-// of the callers, all of them in this crate. Which case may move the pool is left to them.
-use ledger::Pool;
+// The pool's arithmetic, exact for any three amounts: what a case puts in and what it takes out are set
+// against each other first, so that no sum is ever too large for its type. Which case may move the pool is
+// left to the callers.
+use units::ALL_MONEY;
 use units::Amount;
 ghost use mathlib.Core.Path.{_≡_};
-ghost use Prim.Native.Nat.{_+_, _<_, _^_};
-ghost use lib.IntN.{pos, natAbs, _+ℤ_, _-ℤ_};
+ghost use mathlib.Core.Bool.{false};
+ghost use Rattle.ledger.specs.Ledgers.{outside, poolAfter};
 
-// What is put in.
-fn plus(p: i64, a: u64) -> i64
-    requires { ⌜ natAbs p + a < 2 ^ 63 ⌝ }
-    ensures { λ r. ⌜ r ≡ p +ℤ pos a ⌝ }
+// Whether a pool, with what is put in and less what is taken out, would be below zero or above all money.
+pub fn is_outside(pool: Amount, old: Amount, new: Amount) -> bool
+    ensures { λ r. ⌜ r ≡ outside (pool .0) (old .0) (new .0) ⌝ }
 {
-    p + (a as i64)
+    let p = pool.zatoshi();
+    let put = old.zatoshi();
+    let taken = new.zatoshi();
+    if put < taken {
+        let fall = taken - put;
+        return p < fall || ALL_MONEY < p - fall;
+    }
+    let rise = put - taken;
+    ALL_MONEY < p || ALL_MONEY - p < rise
 }
 
-// What is taken out.
-fn minus(p: i64, a: u64) -> i64
-    requires { ⌜ natAbs p + a < 2 ^ 63 ⌝ }
-    ensures { λ r. ⌜ r ≡ p -ℤ pos a ⌝ }
+// The pool after it. For `enter` of this crate alone, which knows that it stays in its bounds.
+pub fn moved(pool: Amount, old: Amount, new: Amount) -> Amount
+    requires { ⌜ outside (pool .0) (old .0) (new .0) ≡ false ⌝ }
+    ensures { λ r. ⌜ r .0 ≡ poolAfter (pool .0) (old .0) (new .0) ⌝ }
 {
-    p - (a as i64)
-}
-
-// The pool with what a case puts in, less what it takes out. For `enter` of this crate alone, which
-// knows that the sum stays in range.
-pub fn moved(pool: Pool, old: Amount, new: Amount) -> Pool
-    requires { ⌜ natAbs (pool .0) + old .0 + new .0 < 2 ^ 63 ⌝ }
-    ensures { λ r. ⌜ r .0 ≡ pool .0 +ℤ pos (old .0) -ℤ pos (new .0) ⌝ }
-{
-    let p = pool.0;
-    Pool(minus(plus(p, old.zatoshi()), new.zatoshi()))
+    let p = pool.zatoshi();
+    let put = old.zatoshi();
+    let taken = new.zatoshi();
+    if put < taken {
+        Amount::of(p - (taken - put))
+    } else {
+        Amount::of(p + (put - taken))
+    }
 }

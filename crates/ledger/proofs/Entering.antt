@@ -1,16 +1,14 @@
 -- A sound ledger after an accepted case was entered: it is sound again, has exactly the two rows more, and the order of two cases does not matter.
 -- Assumes nothing.
-use Prim.Native.Nat.{ℕ, _+_, _*_, _/_, _≤_, _^_}
+use Prim.Native.Nat.{ℕ, _+_, _*_, _≤_, _^_}
 use mathlib.Core.Path.{_≡_, refl, sym, ap, _∙_}
 use mathlib.Core.Logic.{inl}
 use mathlib.Core.Bool.{true, false, not}
 use mathlib.Core.List.{List, [], _∷_, List·Memᴰ, List·Memᴰ·head, List·Memᴰ·tail}
 use native.Mathlib.Omega.{arith}
-use lib.IntN.{ℤ, pos, natAbs, negℤ, _+ℤ_, _-ℤ_, +ℤ-assoc, +ℤ-comm}
 use lib.ListN.{length}
 use Rattle.octets.specs.Parts.{same}
 use Rattle.octets.specs.Rows.{rowsOf, Long}
-use Rattle.units.specs.Limits.{maxMoney}
 use Rattle.tree.specs.declared.Tree.{Tree}
 use Rattle.tree.specs.Record.{withLeafOf, grown}
 use Rattle.tree.proofs.Grown.{with-leaf, grown-append}
@@ -20,7 +18,7 @@ use Rattle.ledger.specs.Rows.{byteOrder, tableWithTwo, among}
 use Rattle.ledger.specs.Ledgers.{mostNullifiers, spentRows, enteredOf, Ready}
 use Rattle.ledger.proofs.ByteOrder.{byte-total}
 use Rattle.ledger.proofs.Several.{Each, New, all-member}
-use Rattle.ledger.proofs.Signed.{abs-plus, abs-minus}
+use Rattle.ledger.proofs.Pools.{pool-within}
 use Rattle.ledger.proofs.Soundness.{Sound, within, at-most, among-found, member-among}
 use Rattle.ledger.proofs.TableLaws.{rows-with, length-with, rising-with, gap-with, fresh-new}
 
@@ -69,16 +67,9 @@ module _ (t r : List ℕ) (l : Ledger) (a b x y : List ℕ) (old new : ℕ) (s :
   unfolding spentRows enteredOf
   rises-after = rising-with (l .nullifiers) t both space both-long both-new (s .rises)
 
-  -- the pool stays as near to zero as one case more allows
-  pool-after : old + new ≤ maxMoney → natAbs (after .pool .0) ≤ (l .nullifiers + 2) / 2 * maxMoney
+  pub sound-after : Sound table r after
   unfolding enteredOf
-  pool-after h =
-      let p = l .pool .0 in
-      omega (arith, abs-minus (p +ℤ pos old) new, abs-plus p old, s .pool, s .even)
-
-  pub sound-after : old + new ≤ maxMoney → Sound table r after
-  unfolding enteredOf
-  sound-after h =
+  sound-after =
       record {
         even = omega (arith, s .even);
         fits = rw table-length (g .room);
@@ -86,7 +77,7 @@ module _ (t r : List ℕ) (l : Ledger) (a b x y : List ℕ) (old new : ℕ) (s :
         leaves = leaves-more (l .tree) (x ∷ y ∷ []) (omega (arith, at-most (l .nullifiers + 2) mostNullifiers (length t) (g .room), s .leaves)) ∙ ap (λ (n : ℕ). n + 2) (s .leaves);
         anchored = s .anchored;
         roll = s .roll;
-        pool = pool-after h;
+        pool = pool-within (l .pool .0) old new (g .pool);
       }
 
   -- another row stands there as before
@@ -107,17 +98,7 @@ module _ (t r : List ℕ) (l : Ledger) (a b x y : List ℕ) (old new : ℕ) (s :
   pub among-second : among b (spentRows table after) ≡ true
   among-second = among-new b (List·Memᴰ·tail (List·Memᴰ·head refl))
 
--- what two cases do to the pool they do in either order
-joined : (p a b : ℤ) → p +ℤ a -ℤ b ≡ p +ℤ (a -ℤ b)
-joined p a b = +ℤ-assoc p a (negℤ b)
-
-swapped : (p a b c d : ℤ) → p +ℤ a -ℤ b +ℤ c -ℤ d ≡ p +ℤ c -ℤ d +ℤ a -ℤ b
-swapped p a b c d =
-    joined (p +ℤ a -ℤ b) c d ∙ ap (λ (z : ℤ). z +ℤ (c -ℤ d)) (joined p a b) ∙ +ℤ-assoc p (a -ℤ b) (c -ℤ d)
-    ∙ ap (λ (z : ℤ). p +ℤ z) (+ℤ-comm (a -ℤ b) (c -ℤ d))
-    ∙ sym (joined (p +ℤ c -ℤ d) a b ∙ ap (λ (z : ℤ). z +ℤ (a -ℤ b)) (joined p c d) ∙ +ℤ-assoc p (c -ℤ d) (a -ℤ b))
-
--- two cases entered in either order: one count, the same anchors and pool, and one record or the other
+-- two cases entered in either order: one count, the same anchors, and one record or the other
 module _ (l : Ledger) (x y : List ℕ) (o n : ℕ) (x′ y′ : List ℕ) (o′ n′ : ℕ) where
   pub same-count : enteredOf (enteredOf l x y o n) x′ y′ o′ n′ .nullifiers ≡ enteredOf (enteredOf l x′ y′ o′ n′) x y o n .nullifiers
   unfolding enteredOf
@@ -126,10 +107,6 @@ module _ (l : Ledger) (x y : List ℕ) (o n : ℕ) (x′ y′ : List ℕ) (o′ 
   pub same-anchors : enteredOf (enteredOf l x y o n) x′ y′ o′ n′ .anchors ≡ enteredOf (enteredOf l x′ y′ o′ n′) x y o n .anchors
   unfolding enteredOf
   same-anchors = refl
-
-  pub same-pool : enteredOf (enteredOf l x y o n) x′ y′ o′ n′ .pool .0 ≡ enteredOf (enteredOf l x′ y′ o′ n′) x y o n .pool .0
-  unfolding enteredOf
-  same-pool = swapped (l .pool .0) (pos o) (pos n) (pos o′) (pos n′)
 
   pub one-record : enteredOf (enteredOf l x y o n) x′ y′ o′ n′ .tree ≡ grown (l .tree) (x ∷ y ∷ x′ ∷ y′ ∷ [])
   unfolding enteredOf

@@ -1,10 +1,10 @@
 pub mod ByteOrder
 pub mod Members
+pub mod Pools
 pub mod RowLaws
 pub mod Several
 pub mod Sorting
 pub mod TableLaws
-pub mod Signed
 pub mod Soundness
 pub mod Spent
 pub mod Endings

@@ -1,6 +1,6 @@
 -- What a ledger that is not damaged gives: every clause of the list of damage, turned round; and what its rows then say of a search.
 -- Assumes nothing.
-use Prim.Native.Nat.{ℕ, zero, suc, _*_, _/_, _%_, _≤_}
+use Prim.Native.Nat.{ℕ, zero, suc, _*_, _%_, _≤_}
 use mathlib.Core.Path.{_≡_, refl, sym, ap, _∙_}
 use mathlib.Core.Bool.{Bool, true, false, not, _||_, or-true, false≢true, true≢false}
 use mathlib.Core.Logic.{_⊎_, inl, inr}
@@ -8,7 +8,6 @@ use mathlib.Core.List.{List, [], _∷_, List·Memᴰ, List·Memᴰ·head, List·
 use native.Mathlib.Omega.{arith}
 use borrow.Author.Tests.{eqb-true, eqb-false, eq-eqb, ne-eqb, ltb-false, le-ltb, not-false}
 use lib.Dec.{eqb}
-use lib.IntN.{natAbs}
 use lib.ListN.{length, getD}
 use Rattle.octets.specs.Parts.{same}
 use Rattle.octets.proofs.PartLaws.{same-eq, same-refl}
@@ -43,7 +42,7 @@ pub record Sound (t r : List ℕ) (l : Ledger) : Type 0 where
   pub leaves : l .tree .leaves ≡ l .nullifiers
   pub anchored : l .anchors ≡ 0 → ⊥
   pub roll : l .anchors ≤ roomIn mostAnchors (length r)
-  pub pool : natAbs (l .pool .0) ≤ l .nullifiers / 2 * maxMoney
+  pub pool : l .pool .0 ≤ maxMoney
 
 pub undamaged : (t r : List ℕ) (l : Ledger) → damaged t r l ≡ false → Sound t r l
 unfolding damaged damage
@@ -56,13 +55,13 @@ undamaged t r l h =
       leaves = eqb-true (l .tree .leaves) (l .nullifiers) (not-false (eqb (l .tree .leaves) (l .nullifiers)) (n 3));
       anchored = eqb-false (l .anchors) 0 (n 4);
       roll = ltb-false (roomIn mostAnchors (length r)) (l .anchors) (n 5);
-      pool = ltb-false (l .nullifiers / 2 * maxMoney) (natAbs (l .pool .0)) (n 6);
+      pool = ltb-false maxMoney (l .pool .0) (n 6);
     }
 
 pub sound-undamaged : (t r : List ℕ) (l : Ledger) → Sound t r l → damaged t r l ≡ false
 unfolding damaged damage some
 sound-undamaged t r l s =
-    rw (eq-eqb (l .nullifiers % 2) 0 (s .even), le-ltb (roomIn mostNullifiers (length t)) (l .nullifiers) (s .fits), s .rises, eq-eqb (l .tree .leaves) (l .nullifiers) (s .leaves), ne-eqb (l .anchors) 0 (s .anchored), le-ltb (roomIn mostAnchors (length r)) (l .anchors) (s .roll), le-ltb (l .nullifiers / 2 * maxMoney) (natAbs (l .pool .0)) (s .pool))
+    rw (eq-eqb (l .nullifiers % 2) 0 (s .even), le-ltb (roomIn mostNullifiers (length t)) (l .nullifiers) (s .fits), s .rises, eq-eqb (l .tree .leaves) (l .nullifiers) (s .leaves), ne-eqb (l .anchors) 0 (s .anchored), le-ltb (roomIn mostAnchors (length r)) (l .anchors) (s .roll), le-ltb maxMoney (l .pool .0) (s .pool))
 
 -- rows that there is room for lie within the lent bytes
 pub within : (n most len : ℕ) → n ≤ roomIn most len → n * 32 ≤ len

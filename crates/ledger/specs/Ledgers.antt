@@ -1,12 +1,11 @@
 -- The ledger: room, damage, what it refuses, and what opening, closing a block and an accepted case make of it. t is the nullifier table's lent
 -- bytes, r the anchor roll's, l the counts, record and pool.
 -- Assumes nothing.
-use Prim.Native.Nat.{ℕ, _+_, _*_, _/_, _%_, _^_, _≤_, _<_, min}
+use Prim.Native.Nat.{ℕ, _+_, _-_, _*_, _/_, _%_, _≤_, min}
 use mathlib.Core.Path.{_≡_}
 use mathlib.Core.Bool.{Bool, true, false, cond, not, _||_}
 use mathlib.Core.List.{List, [], _∷_}
 use lib.Dec.{eqb, ltb, leb}
-use lib.IntN.{pos, natAbs, _+ℤ_, _-ℤ_}
 use lib.ListN.{length}
 use Rattle.octets.specs.Parts.{pasted}
 use Rattle.octets.specs.Rows.{rowsOf}
@@ -35,6 +34,14 @@ spentRows t l = rowsOf (l .nullifiers) t
 unfoldable pub anchorRows : List ℕ → Ledger → List (List ℕ)
 anchorRows r l = rowsOf (l .anchors) r
 
+-- THE POOL, from zero to all money: what it would be with so much put in and so much taken out, and whether that is outside. A difference here stops at
+-- zero, so whether it would be below zero is asked by a sum
+unfoldable pub poolAfter : ℕ → ℕ → ℕ → ℕ
+poolAfter pool old new = pool + old - new
+
+unfoldable pub outside : ℕ → ℕ → ℕ → Bool
+outside pool old new = ltb (pool + old) new || ltb maxMoney (poolAfter pool old new)
+
 -- damage: any of these, and nothing else
 unfoldable pub damage : List ℕ → List ℕ → Ledger → List Bool
 damage t r l =
@@ -44,7 +51,7 @@ damage t r l =
     ∷ not (eqb (l .tree .leaves) (l .nullifiers))
     ∷ eqb (l .anchors) 0
     ∷ ltb (roomIn mostAnchors (length r)) (l .anchors)
-    ∷ ltb (l .nullifiers / 2 * maxMoney) (natAbs (l .pool .0))
+    ∷ ltb maxMoney (l .pool .0)
     ∷ []
 
 unfoldable pub some : List Bool → Bool
@@ -54,7 +61,7 @@ some (b ∷ bs) = b || some bs
 unfoldable pub damaged : List ℕ → List ℕ → Ledger → Bool
 damaged t r l = some (damage t r l)
 
--- what a ledger refuses of a case's public part: its anchor and its two nullifiers
+-- what a ledger refuses of a case's public part: its anchor, its two nullifiers and its public values
 unfoldable pub no2 : List ℕ → List ℕ → Ledger → List Rule
 no2 t r l = rule (damaged t r l) 2 0 ∷ []
 
@@ -71,8 +78,12 @@ unfoldable pub no8 : List ℕ → Ledger → List ℕ → List ℕ → List Rule
 no8 t l one two =
     ruleInRow (among one (spentRows t l)) 8 1 (rowNumberOf one (spentRows t l)) ∷ ruleInRow (among two (spentRows t l)) 8 2 (rowNumberOf two (spentRows t l)) ∷ []
 
-unfoldable pub ledgerRefusals : List ℕ → List ℕ → Ledger → List ℕ → List ℕ → List ℕ → List Rule
-ledgerRefusals t r l anchor one two = rulesIn (no2 t r l ∷ no3 t l ∷ no6 r l anchor ∷ no8 t l one two ∷ [])
+-- acceptance would take the pool outside its bounds
+unfoldable pub no17 : ℕ → ℕ → ℕ → List Rule
+no17 pool old new = rule (outside pool old new) 17 0 ∷ []
+
+unfoldable pub ledgerRefusals : List ℕ → List ℕ → Ledger → List ℕ → List ℕ → List ℕ → ℕ → ℕ → List Rule
+ledgerRefusals t r l anchor one two old new = rulesIn (no2 t r l ∷ no3 t l ∷ no6 r l anchor ∷ no8 t l one two ∷ no17 (l .pool .0) old new ∷ [])
 
 -- ENTERING an accepted case: both nullifiers, then commitment 1 and commitment 2, then the public values
 unfoldable pub enteredOf : Ledger → List ℕ → List ℕ → ℕ → ℕ → Ledger
@@ -81,15 +92,15 @@ enteredOf l commitment1 commitment2 old new =
       nullifiers = l .nullifiers + 2;
       anchors = l .anchors;
       tree = grown (l .tree) (commitment1 ∷ commitment2 ∷ []);
-      pool = record { 0 = l .pool .0 +ℤ pos old -ℤ pos new };
+      pool = record { 0 = poolAfter (l .pool .0) old new };
     }
 
--- what has to hold before: room, order, two new nullifiers, and a pool that stays within what is counted
+-- what has to hold before: room, order, two new nullifiers, and a pool that stays in its bounds
 pub record Ready (t : List ℕ) (l : Ledger) (one two : List ℕ) (old new : ℕ) : Type 0 where
   pub room : l .nullifiers + 2 ≤ roomIn mostNullifiers (length t)
   pub rises : rising byteOrder (spentRows t l) ≡ true
   pub fresh : Fresh (l .nullifiers) t one two
-  pub pool : natAbs (l .pool .0) + old + new < 2 ^ 63
+  pub pool : outside (l .pool .0) old new ≡ false
 
 -- CLOSING a block: damage, then no free row of the roll; else the current root is the roll's next row
 unfoldable pub closeRefusals : List ℕ → List ℕ → Ledger → List Rule
@@ -105,7 +116,7 @@ rollAfterClose t r l = cond (isAccepted (first (closeRefusals t r l))) (pasted (
 -- OPENING: nothing spent, no leaf, nothing in the pool, and the root of the tree with no leaf for an anchor. Where the roll has no row to write it in,
 -- that is refused, and there is no anchor either
 unfoldable pub emptyLedger : ℕ → Ledger
-emptyLedger anchors = record { nullifiers = 0; anchors = anchors; tree = freshOf; pool = record { 0 = pos 0 } }
+emptyLedger anchors = record { nullifiers = 0; anchors = anchors; tree = freshOf; pool = record { 0 = 0 } }
 
 abbrev pub freshLedger : Ledger
 freshLedger = emptyLedger 1

@@ -2,10 +2,10 @@
 // table and an anchor roll in lent memory, and the answers about them. The definitions and their laws
 // are here; the code that reads or writes a table or a roll is in `judge`.
 ghost use mathlib.Core.Path.{_≡_};
-ghost use lib.IntN.{natAbs};
 ghost use Rattle.ledger.specs.Sorted.{isLess, isEqual};
 use refusals::Answer;
 use tree::Tree;
+use units::Amount;
 use units::Row;
 
 // How one row stands to another.
@@ -43,29 +43,6 @@ pub enum Found {
     Gap(Row),
 }
 
-// How far a number is from zero; of the least number too, which has no negative of its own.
-fn distance(p: i64) -> u64
-    ensures { λ r. ⌜ r ≡ natAbs p ⌝ }
-{
-    if p < 0 {
-        ((-1 - p) as u64) + 1
-    } else {
-        p as u64
-    }
-}
-
-// What went into the pool less what came out of it, in zatoshi. It may be below zero.
-pub struct Pool(pub i64);
-
-impl Pool {
-    // How far it is from zero.
-    pub fn size(self) -> u64
-        ensures { λ r. ⌜ r ≡ natAbs (self .0) ⌝ }
-    {
-        distance(self.0)
-    }
-}
-
 // The most rows that are used of a nullifier table and of an anchor roll, however long they are lent.
 pub const MOST_NULLIFIERS: usize = 2048;
 
@@ -76,7 +53,7 @@ pub struct Ledger {
     pub nullifiers: usize,
     pub anchors: usize,
     pub tree: Tree,
-    pub pool: Pool,
+    pub pool: Amount,
 }
 
 // An answer, and the ledger after it.

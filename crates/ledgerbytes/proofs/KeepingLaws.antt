@@ -1,38 +1,21 @@
 -- What was written is read back: a ledger kept as bytes between two calls is the same ledger. And what was read is written as the same bytes.
 -- Assumes nothing.
-use Prim.Native.Nat.{ℕ, _+_, _-_, _≤_, _<_, _^_}
+use Prim.Native.Nat.{ℕ, _+_, _≤_}
 use mathlib.Core.Path.{_≡_, sym, ap, _∙_}
 use mathlib.Core.Bool.{true}
 use mathlib.Core.List.{List, [], _++_, append-nil}
-use native.Mathlib.Decide.{decLe}
-use native.Mathlib.Nat.{lt-of-not-le}
 use native.Mathlib.Omega.{arith}
-use lib.IntN.{ℤ, pos, negsuc}
 use lib.ListN.{length, length-append}
-use lib.Signed.{mag}
-use borrow.Author.Tests.{lt-ltb, le-ltb, eqb-true}
+use borrow.Author.Tests.{eqb-true}
 use Rattle.octets.specs.Parts.{Bytes, field}
-use Rattle.octets.specs.Numbers.{little, littleBytes}
+use Rattle.octets.specs.Numbers.{littleBytes}
 use Rattle.octets.proofs.ByteLaws.{field-below, field-again}
 use Rattle.octets.proofs.NumberLaws.{little-bytes, little-bytes-length}
 use Rattle.octets.proofs.PartLaws.{field-length, field-left, field-right, field-all, field-join}
 use Rattle.tree.specs.RecordBytes.{recordAt, recordBytes}
 use Rattle.tree.proofs.RecordLaws.{record-long, record-between, record-again}
 use Rattle.ledger.specs.declared.Ledger.{Ledger}
-use Rattle.ledgerbytes.specs.LedgerBytes.{signedOf, bitsOf, ledgerOf, headOf, ledgerBytes, isWhole, Fits}
-
-pub signed-bits : (z : ℤ) → mag z < 2 ^ 63 → signedOf (bitsOf z) ≡ z
-unfolding signedOf bitsOf
-signed-bits (pos n) h = rw (lt-ltb n (2 ^ 63) h)
-signed-bits (negsuc n) h =
-    let x = 2 ^ 64 - 1 - n in
-    let e : 2 ^ 64 - 1 - x ≡ n = omega arith in
-    rw (le-ltb x (2 ^ 63) (omega arith), e)
-
-bits-small : (z : ℤ) → mag z < 2 ^ 63 → bitsOf z < 2 ^ 64
-unfolding bitsOf
-bits-small (pos n) h = omega arith
-bits-small (negsuc n) h = omega arith
+use Rattle.ledgerbytes.specs.LedgerBytes.{ledgerOf, headOf, ledgerBytes, isWhole, Fits}
 
 -- a part behind another
 last : (at n : ℕ) (p s : List ℕ) → length p ≡ at → length s ≡ n → field at n (p ++ s) ≡ s
@@ -65,8 +48,8 @@ module _ (a b c e : List ℕ) (ha : length a ≡ 8) (hb : length b ≡ 8) (hc : 
 head-long : (l : Ledger) → length (headOf l) ≡ 24
 unfolding headOf
 head-long l =
-    three (littleBytes 8 (l .nullifiers)) (littleBytes 8 (l .anchors)) (littleBytes 8 (bitsOf (l .pool .0))) []
-    (little-bytes-length 8 (l .nullifiers)) (little-bytes-length 8 (l .anchors)) (little-bytes-length 8 (bitsOf (l .pool .0)))
+    three (littleBytes 8 (l .nullifiers)) (littleBytes 8 (l .anchors)) (littleBytes 8 (l .pool .0)) []
+    (little-bytes-length 8 (l .nullifiers)) (little-bytes-length 8 (l .anchors)) (little-bytes-length 8 (l .pool .0))
 
 -- a ledger that fits takes 988 bytes
 pub bytes-long : (l : Ledger) → Fits l → length (ledgerBytes l) ≡ 988
@@ -86,31 +69,14 @@ read-written l h =
     let n = littleBytes 8 (l .nullifiers) in
     let a = littleBytes 8 (l .anchors) in
     let z = l .pool .0 in
-    let p = littleBytes 8 (bitsOf z) in
+    let p = littleBytes 8 z in
     let r = recordBytes (l .tree) in
     let hn = little-bytes-length 8 (l .nullifiers) in
     let ha = little-bytes-length 8 (l .anchors) in
-    let hp = little-bytes-length 8 (bitsOf z) in
-    rw (part-1 n a p r hn ha hp, part-2 n a p r hn ha hp, part-3 n a p r hn ha hp, record-part l h, little-bytes 8 (l .nullifiers) (h .nullifiers), little-bytes 8 (l .anchors) (h .anchors), little-bytes 8 (bitsOf z) (bits-small z (h .pool)), signed-bits z (h .pool))
+    let hp = little-bytes-length 8 z in
+    rw (part-1 n a p r hn ha hp, part-2 n a p r hn ha hp, part-3 n a p r hn ha hp, record-part l h, little-bytes 8 (l .nullifiers) (h .nullifiers), little-bytes 8 (l .anchors) (h .anchors), little-bytes 8 z (h .pool))
 
--- THE OTHER WAY ROUND. A number of 64 bits is read as a signed one, and its bits are that number again
-module _ (x : ℕ) (h : x < 2 ^ 64) where
-  bits-signed : bitsOf (signedOf x) ≡ x
-  unfolding signedOf bitsOf
-  bits-signed = go (decLe (2 ^ 63) x)
-    where
-      go : Dec (2 ^ 63 ≤ x) → bitsOf (signedOf x) ≡ x
-      go (yes l) = rw (le-ltb x (2 ^ 63) l) (omega arith)
-      go (no l) = rw (lt-ltb x (2 ^ 63) (lt-of-not-le l))
-
-  signed-small : mag (signedOf x) < 2 ^ 63
-  unfolding signedOf
-  signed-small = go (decLe (2 ^ 63) x)
-    where
-      go : Dec (2 ^ 63 ≤ x) → mag (signedOf x) < 2 ^ 63
-      go (yes l) = rw (le-ltb x (2 ^ 63) l) (omega arith)
-      go (no l) = rw (lt-ltb x (2 ^ 63) (lt-of-not-le l)) (omega (arith, lt-of-not-le l))
-
+-- THE OTHER WAY ROUND
 module _ (s : List ℕ) (h : Bytes s) where
   -- the ledger that some bytes say is one of the machine's own numbers
   pub read-fits : Fits (ledgerOf s)
@@ -119,7 +85,7 @@ module _ (s : List ℕ) (h : Bytes s) where
       record {
         nullifiers = field-below 0 8 s h;
         anchors = field-below 8 8 s h;
-        pool = signed-small (little (field 16 8 s)) (field-below 16 8 s h);
+        pool = field-below 16 8 s h;
         leaves = field-below 24 4 s h;
         nodes = field-length 28 960 s;
       }
@@ -128,5 +94,5 @@ module _ (s : List ℕ) (h : Bytes s) where
   pub written-read : isWhole s ≡ true → ledgerBytes (ledgerOf s) ≡ s
   unfolding ledgerOf ledgerBytes headOf
   written-read w =
-      rw (field-again 0 8 s h, field-again 8 8 s h, bits-signed (little (field 16 8 s)) (field-below 16 8 s h), field-again 16 8 s h, record-again 24 s h, field-join 0 8 8 s, field-join 0 16 8 s, field-join 0 24 964 s)
+      rw (field-again 0 8 s h, field-again 8 8 s h, field-again 16 8 s h, record-again 24 s h, field-join 0 8 8 s, field-join 0 16 8 s, field-join 0 24 964 s)
       (ap (λ (n : ℕ). field 0 n s) (sym (eqb-true (length s) 988 w)) ∙ field-all s)

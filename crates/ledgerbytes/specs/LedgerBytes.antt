@@ -1,27 +1,16 @@
 -- A ledger's 988 bytes: nullifier count, anchor count, pool, and the tree's record. b is the bytes, l what a ledger keeps beside its table and its roll.
 -- Assumes nothing.
-use Prim.Native.Nat.{ℕ, _-_, _^_, _<_}
+use Prim.Native.Nat.{ℕ, _^_, _<_}
 use mathlib.Core.Path.{_≡_}
 use mathlib.Core.Bool.{Bool, cond}
 use mathlib.Core.List.{List, [], _++_}
-use lib.Dec.{eqb, ltb}
-use lib.IntN.{ℤ, pos, negsuc}
+use lib.Dec.{eqb}
 use lib.ListN.{length}
-use lib.Signed.{mag}
 use Rattle.octets.specs.Parts.{field}
 use Rattle.octets.specs.Numbers.{little, littleBytes}
 use Rattle.tree.specs.RecordBytes.{recordAt, recordBytes}
 use Rattle.ledger.specs.declared.Ledger.{Ledger}
 use Rattle.ledgerbytes.specs.declared.Counts.{Counts}
-
--- the signed number of 64 bits: from 2 ^ 63 on they count down from minus one
-unfoldable pub signedOf : ℕ → ℤ
-signedOf x = cond (ltb x (2 ^ 63)) (pos x) (negsuc (2 ^ 64 - 1 - x))
-
--- and the 64 bits of a signed number
-unfoldable pub bitsOf : ℤ → ℕ
-bitsOf (pos n) = n
-bitsOf (negsuc n) = 2 ^ 64 - 1 - n
 
 -- READING: the ledger that some bytes say, whether it can be or not; where they have ended they read as zeros
 unfoldable pub ledgerOf : List ℕ → Ledger
@@ -30,7 +19,7 @@ ledgerOf b =
       nullifiers = little (field 0 8 b);
       anchors = little (field 8 8 b);
       tree = recordAt 24 b;
-      pool = record { 0 = signedOf (little (field 16 8 b)) };
+      pool = record { 0 = little (field 16 8 b) };
     }
 
 -- THE COUNTS of a ledger, all but its record's nodes; and a ledger that has them, and no node
@@ -42,7 +31,7 @@ bare c = record { nullifiers = c .nullifiers; anchors = c .anchors; tree = recor
 
 -- WRITING: what stands before the record, and the whole
 unfoldable pub headOf : Ledger → List ℕ
-headOf l = littleBytes 8 (l .nullifiers) ++ littleBytes 8 (l .anchors) ++ littleBytes 8 (bitsOf (l .pool .0))
+headOf l = littleBytes 8 (l .nullifiers) ++ littleBytes 8 (l .anchors) ++ littleBytes 8 (l .pool .0)
 
 unfoldable pub ledgerBytes : Ledger → List ℕ
 ledgerBytes l = headOf l ++ recordBytes (l .tree)
@@ -61,6 +50,6 @@ bufferAfterWrite l b = cond (isWhole b) (ledgerBytes l) b
 pub record Fits (l : Ledger) : Type 0 where
   pub nullifiers : l .nullifiers < 2 ^ 64
   pub anchors : l .anchors < 2 ^ 64
-  pub pool : mag (l .pool .0) < 2 ^ 63
+  pub pool : l .pool .0 < 2 ^ 64
   pub leaves : l .tree .leaves < 2 ^ 32
   pub nodes : length (l .tree .nodes) ≡ 960

@@ -5,9 +5,9 @@ ghost use mathlib.Core.Path.{_≡_};
 ghost use Prim.Native.Nat.{_+_, _≤_};
 ghost use Rattle.octets.specs.Parts.{field};
 ghost use Rattle.octets.specs.Numbers.{little};
-ghost use Rattle.ledgerbytes.specs.LedgerBytes.{signedOf, bitsOf, ledgerOf, countsOf, headOf, isWhole, bufferAfterWrite};
+ghost use Rattle.ledgerbytes.specs.LedgerBytes.{ledgerOf, countsOf, headOf, isWhole, bufferAfterWrite};
 use ledger::Ledger;
-use ledger::Pool;
+use units::Amount;
 
 // How many bytes a ledger has.
 pub const LEDGER_LENGTH: usize = 988;
@@ -17,30 +17,7 @@ pub struct Counts {
     pub nullifiers: usize,
     pub anchors: usize,
     pub leaves: u32,
-    pub pool: Pool,
-}
-
-// The signed number of 64 bits.
-fn signed(x: u64) -> i64
-    ensures { λ r. ⌜ r ≡ signedOf x ⌝ }
-{
-    if x < 0x8000_0000_0000_0000 {
-        x as i64
-    } else {
-        -1 - ((0xffff_ffff_ffff_ffff - x) as i64)
-    }
-}
-
-// The 64 bits of a pool.
-fn bits(pool: Pool) -> u64
-    ensures { λ r. ⌜ r ≡ bitsOf (pool .0) ⌝ }
-{
-    let n = pool.size();
-    if pool.0 < 0 {
-        0xffff_ffff_ffff_ffff - n + 1
-    } else {
-        n
-    }
+    pub pool: Amount,
 }
 
 // The number of eight bytes at an index before the record's nodes: in one load where the buffer has them.
@@ -81,7 +58,7 @@ pub fn read_counts(bytes: &[u8]) -> Counts
         nullifiers: number(bytes, 0) as usize,
         anchors: number(bytes, 8) as usize,
         leaves: leaves_in(bytes),
-        pool: Pool(signed(number(bytes, 16))),
+        pool: Amount::of(number(bytes, 16)),
     }
 }
 
@@ -106,7 +83,7 @@ fn head(ledger: Ledger) -> [u8; 24]
 {
     let nullifiers = octets::le_bytes64(ledger.nullifiers as u64);
     let anchors = octets::le_bytes64(ledger.anchors as u64);
-    let money = octets::le_bytes64(bits(ledger.pool));
+    let money = octets::le_bytes64(ledger.pool.zatoshi());
     let mut r = [0u8; 24];
     octets::copy_in(&mut r, 0, &nullifiers);
     octets::copy_in(&mut r, 8, &anchors);

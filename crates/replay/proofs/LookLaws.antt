@@ -6,10 +6,9 @@ use mathlib.Core.List.{List, _++_, append-assoc}
 use native.Mathlib.Omega.{arith}
 use lib.ListN.{take, drop}
 use lib.Ieee.{Float}
-use lib.IntN.{ℤ}
 use Rattle.octets.specs.Parts.{field}
 use Rattle.text.specs.Words.{ascii}
-use Rattle.text.specs.Decimal.{decimal, signed}
+use Rattle.text.specs.Decimal.{decimal}
 use Rattle.text.specs.Hex.{hex, hex64}
 use Rattle.text.specs.Answers.{answerWords, answerLine}
 use Rattle.refusals.specs.declared.Answer.{Answer}
@@ -27,13 +26,14 @@ use Rattle.seal.specs.Body.{floatOf, readOf}
 use Rattle.seal.specs.Pull.{judgeOf, sealAnswer}
 use Rattle.replay.specs.Looks.{ledgerText, rowsShown, rowLines, rowsText, memoryText, pullBits, sealedText, readText, sealText}
 
-pub pool-as : (z : ℤ) {root root′ : List ℕ} → root ≡ root′
-    → ascii " pool " ++ (signed z ++ ((ascii " root " ++ hex root) ++ ascii "\n")) ≡ ascii " pool " ++ signed z ++ ascii " root " ++ hex root′ ++ ascii "\n"
-pool-as z e = rw e (simp append-assoc)
+pub pool-as : {pool pool′ : ℕ} {root root′ : List ℕ} → pool ≡ pool′ → root ≡ root′
+    → (ascii " pool " ++ decimal pool) ++ ((ascii " root " ++ hex root) ++ ascii "\n")
+    ≡ ascii " pool " ++ decimal pool′ ++ ascii " root " ++ hex root′ ++ ascii "\n"
+pool-as e f = rw (e, f) (simp append-assoc)
 
 pub ledger-as : (l : Ledger)
     → (ascii "ledger spent " ++ decimal (l .nullifiers)) ++ ((ascii " leaves " ++ decimal (l .tree .leaves)) ++ ((ascii " anchors " ++ decimal (l .anchors))
-    ++ (ascii " pool " ++ signed (l .pool .0) ++ ascii " root " ++ hex (recordRoot (l .tree)) ++ ascii "\n")))
+    ++ (ascii " pool " ++ decimal (l .pool .0) ++ ascii " root " ++ hex (recordRoot (l .tree)) ++ ascii "\n")))
     ≡ ledgerText l
 unfolding ledgerText
 ledger-as l = simp append-assoc

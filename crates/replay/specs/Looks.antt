@@ -9,7 +9,7 @@ use lib.Ieee.{Float, binary64, isNan, toBits}
 use Rattle.octets.specs.Parts.{field}
 use Rattle.octets.specs.Rows.{rowsOf}
 use Rattle.text.specs.Words.{ascii}
-use Rattle.text.specs.Decimal.{decimal, signed}
+use Rattle.text.specs.Decimal.{decimal}
 use Rattle.text.specs.Hex.{hex, hex64}
 use Rattle.text.specs.Answers.{answerWords, answerLine}
 use Rattle.refusals.specs.Rules.{answer}
@@ -29,7 +29,7 @@ use Rattle.seal.specs.Pull.{judgeOf, sealAnswer}
 unfoldable pub ledgerText : Ledger → List ℕ
 ledgerText l =
     ascii "ledger spent " ++ decimal (l .nullifiers) ++ ascii " leaves " ++ decimal (l .tree .leaves) ++ ascii " anchors " ++ decimal (l .anchors)
-    ++ ascii " pool " ++ signed (l .pool .0) ++ ascii " root " ++ hex (recordRoot (l .tree)) ++ ascii "\n"
+    ++ ascii " pool " ++ decimal (l .pool .0) ++ ascii " root " ++ hex (recordRoot (l .tree)) ++ ascii "\n"
 
 -- ITS ROWS: a line for each that the ledger's count claims and the lent bytes have room for
 unfoldable pub rowLine : List ℕ → List ℕ → List ℕ

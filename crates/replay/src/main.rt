@@ -13,7 +13,7 @@ ghost use Rattle.sha256.specs.Hash.{sha256Of};
 ghost use Rattle.tree.specs.Record.{recordRoot};
 ghost use Rattle.ledger.specs.Ledgers.{openRefusals, openedOf, rollAfterOpen, roomIn};
 ghost use Rattle.text.specs.Words.{ascii};
-ghost use Rattle.text.specs.Decimal.{signed};
+ghost use Rattle.text.specs.Decimal.{decimal};
 ghost use Rattle.text.specs.Answers.{answerWords, answerLine};
 ghost use Rattle.text.specs.Hex.{hex, hex64};
 ghost use Rattle.text.specs.Pen.{pen, Wrote};
@@ -23,13 +23,13 @@ use ledger::Answered;
 use ledger::Ledger;
 use ledger::MOST_ANCHORS;
 use ledger::MOST_NULLIFIERS;
-use ledger::Pool;
 use libc::STDIN_FILENO;
 use refusals::Answer;
 use seal::Calibration;
 use seal::Read;
 use seal::Sealed;
 use tree::Tree;
+use units::Amount;
 
 // What is kept from entry to entry: the ledger, how many bytes of each buffer are lent to it, and
 // whether the run goes on.
@@ -69,7 +69,7 @@ fn nothing(on: bool) -> State
         nullifiers: 0,
         anchors: 0,
         tree: Tree::fresh(),
-        pool: Pool(0),
+        pool: Amount::of(0),
     };
     State {
         on,
@@ -111,18 +111,18 @@ fn put_named(out: &mut [u8], at: usize, word: &[u8], bytes: &[u8; 32]) -> usize
 
 // The end of the line about a ledger: its pool and its root.
 fn put_pool_and_root(out: &mut [u8], at: usize, l: Ledger) -> usize
-    ensures { λ r. ⌜ Wrote 103 (ascii " pool " ++ signed (l .pool .0) ++ ascii " root " ++ hex (recordRoot (l .tree)) ++ ascii "\n") (pen (now (out .entry)) at) (pen (now (out .exit)) r) ⌝ }
+    ensures { λ r. ⌜ Wrote 97 (ascii " pool " ++ decimal (l .pool .0) ++ ascii " root " ++ hex (recordRoot (l .tree)) ++ ascii "\n") (pen (now (out .entry)) at) (pen (now (out .exit)) r) ⌝ }
 {
     let tree = l.tree;
-    let named = text::put(out, at, b" pool ");
-    let money = scanning::put_pool(out, named, l.pool);
+    let pool = l.pool;
+    let money = text::put_count(out, at, b" pool ", pool.zatoshi());
     let root = tree.root();
     let rooted = put_named(out, money, b" root ", &root);
     text::put(out, rooted, b"\n")
 }
 
 fn put_ledger(out: &mut [u8], l: Ledger) -> usize
-    ensures { λ r. ⌜ Wrote 200 (ledgerText l) (pen (now (out .entry)) 0) (pen (now (out .exit)) r) ⌝ }
+    ensures { λ r. ⌜ Wrote 187 (ledgerText l) (pen (now (out .entry)) 0) (pen (now (out .exit)) r) ⌝ }
 {
     let tree = l.tree;
     let spent = text::put_count(out, 0, b"ledger spent ", l.nullifiers as u64);

@@ -10,7 +10,7 @@ use native.Mathlib.Omega.{arith}
 use lib.ListN.{length, take}
 use lib.Seq.{take-all}
 use Rattle.text.specs.Words.{ascii}
-use Rattle.text.specs.Decimal.{decimal, signed}
+use Rattle.text.specs.Decimal.{decimal}
 use Rattle.text.specs.Answers.{answerLine}
 use Rattle.refusals.specs.declared.Answer.{Answer}
 use Rattle.refusals.specs.Rules.{isAccepted}
@@ -18,11 +18,11 @@ use Rattle.bag.specs.declared.Scanned.{Scanned}
 use Rattle.ledger.specs.declared.Ledger.{Ledger}
 use Rattle.scanning.specs.Lines.{caseLines, ledgerLine, linesOf}
 
-pub ledger-as : (l : Ledger)
-    → (ascii "ledger spent " ++ decimal (l .nullifiers)) ++ ((ascii " leaves " ++ decimal (l .tree .leaves)) ++ (ascii " pool " ++ (signed (l .pool .0) ++ ascii "\n")))
+pub ledger-as : (l : Ledger) {pool : ℕ} → pool ≡ l .pool .0
+    → (ascii "ledger spent " ++ decimal (l .nullifiers)) ++ ((ascii " leaves " ++ decimal (l .tree .leaves)) ++ ((ascii " pool " ++ decimal pool) ++ ascii "\n"))
     ≡ ledgerLine l
 unfolding ledgerLine
-ledger-as l = simp append-assoc
+ledger-as l e = rw e (simp append-assoc)
 
 -- no more than there are
 pub take-min : (n k : ℕ) (l : List Answer) → length l ≡ k → take (min n k) l ≡ take n l

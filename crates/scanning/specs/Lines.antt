@@ -6,7 +6,7 @@ use mathlib.Core.Bool.{Bool, cond}
 use mathlib.Core.List.{List, _++_, flatMap}
 use lib.ListN.{take}
 use Rattle.text.specs.Words.{ascii}
-use Rattle.text.specs.Decimal.{decimal, signed}
+use Rattle.text.specs.Decimal.{decimal}
 use Rattle.text.specs.Answers.{answerLine, answerAndRow}
 use Rattle.refusals.specs.declared.Answer.{Answer}
 use Rattle.refusals.specs.Rules.{isAccepted}
@@ -24,7 +24,7 @@ caseLines rows given = flatMap (caseText rows) given
 -- the nullifiers that are spent, the leaves of the tree and the pool
 unfoldable pub ledgerLine : Ledger → List ℕ
 ledgerLine l =
-    ascii "ledger spent " ++ decimal (l .nullifiers) ++ ascii " leaves " ++ decimal (l .tree .leaves) ++ ascii " pool " ++ signed (l .pool .0)
+    ascii "ledger spent " ++ decimal (l .nullifiers) ++ ascii " leaves " ++ decimal (l .tree .leaves) ++ ascii " pool " ++ decimal (l .pool .0)
     ++ ascii "\n"
 
 -- ALL LINES: of a refused layout its line alone, of a refused seal its line alone; else the seal's, each judged case's, the ledger's

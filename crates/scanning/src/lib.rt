@@ -4,13 +4,11 @@
 ghost use mathlib.Core.Path.{_≡_};
 ghost use Prim.Native.Nat.{min};
 ghost use lib.ListN.{take};
-ghost use Rattle.text.specs.Decimal.{signed};
 ghost use Rattle.text.specs.Pen.{pen, Wrote, Rendered};
 ghost use Rattle.scanning.specs.Lines.{caseText, caseLines, ledgerLine, linesOf};
 ghost use Rattle.scanning.specs.FreshLedger.{calibrated, freshScan};
 use bag::Scanned;
 use ledger::Ledger;
-use ledger::Pool;
 use refusals::Answer;
 use seal::Calibration;
 
@@ -62,28 +60,20 @@ fn put_cases(out: &mut [u8], at: usize, answers: [Answer; 7], n: usize, rows: bo
     next
 }
 
-// A pool, with its sign.
-pub fn put_pool(out: &mut [u8], at: usize, pool: Pool) -> usize
-    ensures { λ r. ⌜ Wrote 21 (signed (pool .0)) (pen (now (out .entry)) at) (pen (now (out .exit)) r) ⌝ }
-{
-    let size = pool.size();
-    text::put_signed(out, at, pool.0 < 0, size)
-}
-
 fn put_ledger(out: &mut [u8], at: usize, l: Ledger) -> usize
-    ensures { λ r. ⌜ Wrote 89 (ledgerLine l) (pen (now (out .entry)) at) (pen (now (out .exit)) r) ⌝ }
+    ensures { λ r. ⌜ Wrote 88 (ledgerLine l) (pen (now (out .entry)) at) (pen (now (out .exit)) r) ⌝ }
 {
     let tree = l.tree;
+    let pool = l.pool;
     let spent = text::put_count(out, at, b"ledger spent ", l.nullifiers as u64);
     let leaves = text::put_count(out, spent, b" leaves ", tree.leaves as u64);
-    let named = text::put(out, leaves, b" pool ");
-    let money = put_pool(out, named, l.pool);
+    let money = text::put_count(out, leaves, b" pool ", pool.zatoshi());
     text::put(out, money, b"\n")
 }
 
 // A refused layout and a refused seal have one line, and nothing after it.
 fn put_scan(out: &mut [u8], s: Scanned, rows: bool) -> usize
-    ensures { λ r. ⌜ Wrote 640 (linesOf rows s) (pen (now (out .entry)) 0) (pen (now (out .exit)) r) ⌝ }
+    ensures { λ r. ⌜ Wrote 639 (linesOf rows s) (pen (now (out .entry)) 0) (pen (now (out .exit)) r) ⌝ }
 {
     let layout = s.layout;
     if layout.is_accepted() {

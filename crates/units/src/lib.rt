@@ -8,7 +8,7 @@ ghost use lib.Dec.{eqb, leb, ltb};
 ghost use Rattle.units.specs.Limits.{maxMoney, treeLeaves};
 ghost use Rattle.units.specs.Pairs.{numberOf};
 
-// All the money there will ever be, in zatoshi: the highest public value.
+// All the money there will ever be, in zatoshi: the highest public value, and the highest pool.
 pub const ALL_MONEY: u64 = 2100000000000000;
 
 // How many leaves the commitment tree can have, 2 ^ 29.
@@ -73,7 +73,7 @@ impl Amount {
         self.0 == 0
     }
 
-    // Whether a public value may be so high.
+    // Whether a public value or a pool may be so high.
     pub fn is_money(self) -> bool
         ensures { λ r. ⌜ r ≡ leb (self .0) maxMoney ⌝ }
     {

@@ -1,7 +1,7 @@
 use mathlib.Core.Path.{sym, _∙_}
 use borrow.Author.Tests.{not-true, not-false}
 use Rattle.ledgerbytes.specs.LedgerBytes.{bare}
-use Rattle.judge.proofs.Outcomes.{length-decides, front-decides, witness-decides}
+use Rattle.judge.proofs.Outcomes.{length-decides, front-decides, witness-decides, pool-decides}
 use borrow.Author.Needs.{needs}
 use Rattle.judge.proofs.answered.Statement.{statement}
 use Rattle.judge.proofs.answered.Tie as tie
@@ -24,10 +24,21 @@ returns-2 c =
 
 returns-3 : tie.Need-returns-3
 returns-3 c =
-    let p = c .before in
+    let w = c .before .before in
+    let p = w .before in
     let q = p .before .before in
     let a = q .before .before .before .before .before .before .args in
-    c .witness .ensures ∙ sym (witness-decides (a .case .now) (a .table .now) (a .roll .now) (bare (a .counts)) _ _ (q .ask .ensures) (p .before .is-accepted .ensures) (p .if2 .left))
+    witness-decides (a .case .now) (a .table .now) (a .roll .now) (bare (a .counts)) _ _ (q .ask .ensures) (p .before .is-accepted .ensures) (p .if2 .left) _ _ (w .witness .ensures) (c .before .is-accepted2 .ensures) (c .if3 .taken)
+
+returns-4 : tie.Need-returns-4
+returns-4 c =
+    let o = c .before in
+    let w = o .before .before in
+    let p = w .before in
+    let q = p .before .before in
+    let a = q .before .before .before .before .before .before .args in
+    c .stays-within .ensures
+    ∙ pool-decides (a .case .now) (a .table .now) (a .roll .now) (bare (a .counts)) _ _ (q .ask .ensures) (p .before .is-accepted .ensures) (p .if2 .left) _ _ (w .witness .ensures) (o .before .is-accepted2 .ensures) (o .if3 .left)
 
 pub answered-spec : {M : Type 1} → statement M
 answered-spec =
@@ -40,4 +51,7 @@ answered-spec =
     (λ c κs. search needs)
     returns-2
     (λ c κs. search needs)
-    returns-3)
+    (λ c κs. search needs)
+    returns-3
+    (λ c κs. search needs)
+    returns-4)

@@ -4,7 +4,7 @@ use borrow.Author.Tests.{not-true, not-false, eqb-true}
 use Rattle.refusals.specs.Rules.{isAccepted}
 use Rattle.judge.specs.Judging.{answerOf}
 use Rattle.judge.proofs.Bare.{answered-bare}
-use Rattle.judge.proofs.Outcomes.{accepted-front, refused-ledger, refused-table, accepted-ledger, accepted-table, judged}
+use Rattle.judge.proofs.Outcomes.{refused-ledger, refused-table, accepted-ledger, accepted-table, judged}
 use Rattle.judge.proofs.Readiness.{ready}
 use borrow.Author.Needs.{needs}
 use Rattle.judge.proofs.judge.Statement.{statement}
@@ -34,7 +34,7 @@ entered-requires c κs =
     let p = c .before in
     let a = p .before .before .before .before .before .before .before .before .args in
     ready (a .case .now) (a .table .now) (a .roll .now) (a .ledger)
-    (accepted-front (a .case .now) (a .table .now) (a .roll .now) (a .ledger) (eqb-true _ 0 (accepts p)))
+    (eqb-true _ 0 (accepts p))
 
 returns-2 : tie.Need-returns-2
 returns-2 c =

@@ -10,7 +10,7 @@ use Rattle.ledger.specs.Ledgers.{enteredOf}
 use Rattle.ledgerbytes.specs.LedgerBytes.{ledgerOf, bufferAfterWrite}
 use Rattle.judge.specs.Judging.{answerOf, ledgerAfterCase}
 use Rattle.judge.proofs.Bare.{answered-bare}
-use Rattle.judge.proofs.Outcomes.{accepted-front, refused-table, accepted-ledger, accepted-table, refused-kept, accepted-kept}
+use Rattle.judge.proofs.Outcomes.{refused-table, accepted-ledger, accepted-table, refused-kept, accepted-kept}
 use Rattle.judge.proofs.Readiness.{ready}
 use borrow.Author.Needs.{needs}
 use Rattle.judge.proofs.judge_kept.Statement.{statement}
@@ -42,7 +42,7 @@ entered-requires c κs =
     let a = p .before .before .before .before .before .before .before .before .before .before .args in
     let l = ledgerOf (a .kept .now) in
     rw (c .before .read .ensures)
-    (ready (a .case .now) (a .table .now) (a .roll .now) l (accepted-front (a .case .now) (a .table .now) (a .roll .now) l (eqb-true _ 0 (accepts p))))
+    (ready (a .case .now) (a .table .now) (a .roll .now) l (eqb-true _ 0 (accepts p)))
 
 returns-2 : tie.Need-returns-2
 returns-2 c =

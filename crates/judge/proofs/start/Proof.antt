@@ -1,6 +1,6 @@
-use lib.IntN.{pos}
 use Rattle.tree.specs.declared.Tree.{Tree}
-use mathlib.Core.Path.{ap}
+use mathlib.Core.Path.{ap₂}
+use Prim.Native.Nat.{ℕ}
 use Rattle.ledger.specs.Ledgers.{emptyLedger}
 use borrow.Author.Needs.{needs}
 use Rattle.judge.proofs.start.Statement.{statement}
@@ -8,7 +8,9 @@ use Rattle.judge.proofs.start.Tie as tie
 
 returns : tie.Need-returns
 unfolding emptyLedger
-returns c = ap (λ (t : Tree). record { nullifiers = 0; anchors = c .before .args .anchors; tree = t; pool = record { 0 = pos 0 } }) (c .fresh .ensures)
+returns c =
+    ap₂ (λ (t : Tree) (n : ℕ). record { nullifiers = 0; anchors = c .before .before .args .anchors; tree = t; pool = record { 0 = n } })
+    (c .before .fresh .ensures) (c .of .ensures)
 
 pub start-spec : {M : Type 1} → statement M
-start-spec = tie.close (tie.spec (λ c κs. search needs) returns)
+start-spec = tie.close (tie.spec (λ c κs. search needs) (λ c κs. search needs) returns)

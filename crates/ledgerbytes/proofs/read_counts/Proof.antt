@@ -1,5 +1,3 @@
-use mir.Syntax.{w64}
-use mir.Facts.{toZ-ofZ}
 use Rattle.ledgerbytes.specs.LedgerBytes.{ledgerOf}
 use borrow.Author.Needs.{needs}
 use Rattle.ledgerbytes.proofs.read_counts.Statement.{statement}
@@ -12,7 +10,7 @@ returns c =
     let l = p .before in
     let a = l .before in
     let n = a .before in
-    rw (toZ-ofZ {w = w64} {z = c .signed .result} (search needs), c .signed .ensures, p .number3 .ensures, l .leaves-in .ensures, a .number2 .ensures, n .number .ensures)
+    rw (c .of .ensures, p .number3 .ensures, l .leaves-in .ensures, a .number2 .ensures, n .number .ensures)
 
 pub read-counts-spec : {M : Type 1} → statement M
 read-counts-spec =

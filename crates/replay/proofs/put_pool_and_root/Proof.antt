@@ -11,8 +11,7 @@ returns c =
     let n = e .before .before .before .before .before in
     let o = n .before .before .before .before in
     let p = o .before .before .before in
-    let w = p .before .before .before .before in
-    text-as (omega arith) (pool-as _ (o .root .ensures)) (then (w .put .ensures) (then (p .put-pool .ensures) (then (n .put-named .ensures) (e .put2 .ensures))))
+    text-as (omega arith) (pool-as (p .before .zatoshi .ensures) (o .root .ensures)) (then (p .put-count .ensures) (then (n .put-named .ensures) (e .put .ensures)))
 
 pub put-pool-and-root-spec : {M : Type 1} → statement M
 put-pool-and-root-spec =

@@ -12,7 +12,7 @@ use Rattle.refusals.proofs.RuleLaws.{stops, goes-on, one-fails, one-passed}
 use Rattle.refusals.proofs.TwoTables.{allFrom, allUpTo, keeps, gives-up, has-still}
 use Rattle.casefile.specs.Fields.{anchorOf, nullifierOf}
 use Rattle.statement.specs.CaseRefusals.{no1, no4, no5, no7, publicRefusals}
-use Rattle.ledger.specs.Ledgers.{mostNullifiers, mostAnchors, damaged, no2, no3, no6, no8, ledgerRefusals}
+use Rattle.ledger.specs.Ledgers.{mostNullifiers, mostAnchors, damaged, no2, no3, no6, no8}
 use Rattle.ledger.proofs.Soundness.{Sound, undamaged, within}
 use Rattle.ledgerbytes.specs.LedgerBytes.{bare}
 use Rattle.judge.specs.Judging.{frontRefusals}
@@ -57,11 +57,10 @@ abbrev from3 : tie.Start → List (List Rule)
 from3 s = rows3 s ∷ from6 s
 
 abbrev whole : tie.Start → List Rule
-whole s =
-    ledgerRefusals (s .args .table .now) (s .args .roll .now) (bare (s .args .counts)) (anchorOf (s .args .case .now)) (nullifierOf 1 (s .args .case .now)) (nullifierOf 2 (s .args .case .now))
+whole s = rulesIn (rows2 s ∷ from3 s)
 
 rest2 : (c : tie.Else1) → first (whole (S2 c)) ≡ first (rulesIn (from3 (S2 c)))
-unfolding ledgerRefusals numbered no2
+unfolding numbered no2
 rest2 c =
     goes-on (rows2 (S2 c)) (from3 (S2 c)) _ _ (c .before .before .sound .ensures) (c .before .is-accepted .ensures) refl (c .if1 .left)
 

@@ -1,15 +1,14 @@
 -- Each early return is one condition of the list of damages, which holds there; at the last return the six before it were seen not to hold, so that damage is exactly that the used rows do not rise.
 use mathlib.Core.Path.{_≡_, sym, ap, _∙_}
-use Prim.Native.Nat.{_*_, _/_, _%_, _≤_, _<_}
+use Prim.Native.Nat.{_%_, _≤_, _<_}
 use mathlib.Core.Bool.{true, false, not, or-false}
-use lib.Dec.{eqb, ltb}
-use lib.IntN.{natAbs}
+use lib.Dec.{eqb, ltb, leb}
 use lib.ListN.{length}
 use native.Mathlib.Omega.{arith}
-use borrow.Author.Tests.{eq-eqb, ne-eqb, lt-ltb, le-ltb}
+use borrow.Author.Tests.{eq-eqb, ne-eqb, lt-ltb, le-ltb, leb-true, leb-false, not-true, not-false}
 use Rattle.units.specs.Limits.{maxMoney}
 use Rattle.ledger.specs.Ledgers.{mostNullifiers, mostAnchors, roomIn, spentRows, some, damage, damaged}
-use Rattle.ledger.proofs.Soundness.{some-at, within, at-most}
+use Rattle.ledger.proofs.Soundness.{some-at, within}
 use Rattle.ledgerbytes.specs.LedgerBytes.{bare}
 use borrow.Author.Needs.{needs}
 use Rattle.judge.proofs.asking.is_damaged.Statement.{statement}
@@ -53,19 +52,12 @@ returns-5 c =
     let h : roomIn mostAnchors (length (a .roll .now)) < a .counts .anchors = omega arith in
     some-at (damage (a .table .now) (a .roll .now) (bare (a .counts))) 5 (lt-ltb _ _ h)
 
-mul-if6 : tie.Need-mul-if6
-mul-if6 c =
-    let e = c .before .before .before .before .before in
-    let a = e .before .before .before .before .before .args in
-    let h : a .counts .nullifiers ≤ mostNullifiers = at-most (a .counts .nullifiers) mostNullifiers (length (a .table .now)) (fits e) in
-    record { fits = omega arith }
-
 returns-6 : tie.Need-returns-6
 unfolding damaged damage
 returns-6 c =
     let a = c .before .before .before .before .before .before .before .before .before .before .before .before .args in
-    let h : a .counts .nullifiers / 2 * maxMoney < natAbs (a .counts .pool .0) = omega arith in
-    some-at (damage (a .table .now) (a .roll .now) (bare (a .counts))) 6 (lt-ltb _ _ h)
+    let above : leb (a .counts .pool .0) maxMoney ≡ false = sym (c .before .is-money .ensures) ∙ not-true _ (c .if6 .taken) in
+    some-at (damage (a .table .now) (a .roll .now) (bare (a .counts))) 6 (lt-ltb maxMoney (a .counts .pool .0) (leb-false (a .counts .pool .0) maxMoney above))
 
 is-rising-requires : tie.Need-is-rising-requires
 is-rising-requires c κs =
@@ -85,9 +77,10 @@ returns-7 c =
     let some-anchor : eqb (l .anchors) 0 ≡ false = ne-eqb (l .anchors) 0 (c .before .before .before .before .before .if4 .left) in
     let h : l .anchors ≤ roomIn mostAnchors (length (a .roll .now)) = omega arith in
     let on-roll : ltb (roomIn mostAnchors (length (a .roll .now))) (l .anchors) ≡ false = le-ltb _ _ h in
-    let k : natAbs (l .pool .0) ≤ l .nullifiers / 2 * maxMoney = omega arith in
-    let near : ltb (l .nullifiers / 2 * maxMoney) (natAbs (l .pool .0)) ≡ false = le-ltb _ _ k in
-    ap not (c .is-rising .ensures) ∙ rw (even, roomy, leaves, some-anchor, on-roll, near) (sym (or-false _))
+    let p = c .before in
+    let money : leb (l .pool .0) maxMoney ≡ true = sym (p .before .is-money .ensures) ∙ not-false _ (p .if6 .left) in
+    let within-money : ltb maxMoney (l .pool .0) ≡ false = le-ltb maxMoney (l .pool .0) (leb-true (l .pool .0) maxMoney money) in
+    ap not (c .is-rising .ensures) ∙ rw (even, roomy, leaves, some-anchor, on-roll, within-money) (sym (or-false _))
 
 pub is-damaged-spec : {M : Type 1} → statement M
 is-damaged-spec =
@@ -101,7 +94,6 @@ is-damaged-spec =
     returns-4
     (λ c κs. search needs)
     returns-5
-    mul-if6
     (λ c κs. search needs)
     returns-6
     is-rising-requires

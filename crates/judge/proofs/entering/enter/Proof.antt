@@ -1,7 +1,6 @@
 use mathlib.Core.Path.{ap, ap₂, _∙_}
-use Prim.Native.Nat.{_+_, _≤_}
+use Prim.Native.Nat.{ℕ, _+_, _≤_}
 use native.Mathlib.Omega.{arith}
-use lib.IntN.{ℤ}
 use lib.ListN.{length}
 use Rattle.tree.specs.declared.Tree.{Tree}
 use Rattle.tree.specs.Record.{grown, withLeafOf}
@@ -30,7 +29,7 @@ returns c =
     let w = c .before in
     let e = w .before .before .before .before .before in
     let a = e .before .before .before .args in (
-      ap₂ (λ (t : Tree) (z : ℤ). record { nullifiers = a .ledger .nullifiers + 2; anchors = a .ledger .anchors; tree = t; pool = record { 0 = z } })
+      ap₂ (λ (t : Tree) (z : ℕ). record { nullifiers = a .ledger .nullifiers + 2; anchors = a .ledger .anchors; tree = t; pool = record { 0 = z } })
           (w .with-leaf2 .ensures ∙ ap (λ (t : Tree). withLeafOf t (a .commitment2)) (w .before .with-leaf .ensures)) (c .moved .ensures),
       e .enter-two .ensures,
     )

@@ -1,36 +1,41 @@
-use Prim.Native.Nat.{ℕ}
-use mathlib.Core.Path.{_≡_, ap₂, _∙_}
 use native.Mathlib.Omega.{arith}
-use lib.IntN.{ℤ, pos, _+ℤ_, _-ℤ_}
-use mir.Syntax.{w64}
-use mir.Facts.{toZ-ofZ}
-use Rattle.ledger.proofs.Signed.{abs-plus}
+use Rattle.ledger.specs.Ledgers.{poolAfter}
+use Rattle.ledger.proofs.Pools.{not-below, not-above}
 use borrow.Author.Needs.{needs}
 use Rattle.judge.proofs.money.moved.Statement.{statement}
 use Rattle.judge.proofs.money.moved.Tie as tie
 
-plus-is : (c : tie.After-plus) → let a = c .before .before .before .args in c .plus .result ≡ a .pool .0 +ℤ pos (a .old .0)
-plus-is c =
-    let a = c .before .before .before .args in
-    c .plus .ensures ∙ ap₂ (λ (z : ℤ) (n : ℕ). z +ℤ pos n) (toZ-ofZ {w = w64} {z = a .pool .0} (search needs)) (c .before .zatoshi .ensures)
+sub-of-2 : tie.Need-sub-of-2
+sub-of-2 c =
+    let s = c .before .before .before .before in
+    omega (arith, not-below (s .args .pool .0) (s .args .old .0) (s .args .new .0) (s .pre))
 
-plus-requires : tie.Need-plus-requires
-plus-requires c κs =
-    let a = c .before .before .args in
-    rw (toZ-ofZ {w = w64} {z = a .pool .0} (search needs), c .zatoshi .ensures) (omega arith)
-
-minus-requires : tie.Need-minus-requires
-minus-requires c κs =
-    let p = c .before in
-    let a = p .before .before .before .args in
-    rw (toZ-ofZ {w = w64} {z = p .plus .result} (search needs), plus-is p, c .zatoshi2 .ensures) (omega (arith, abs-plus (a .pool .0) (a .old .0)))
+add-of : tie.Need-add-of
+add-of c =
+    let s = c .before .before .before .before in
+    record { fits = omega (arith, not-above (s .args .pool .0) (s .args .old .0) (s .args .new .0) (s .pre)) }
 
 returns : tie.Need-returns
+unfolding poolAfter
 returns c =
-    let n = c .before in
-    let p = n .before in
-    toZ-ofZ {w = w64} {z = c .minus .result} (search needs) ∙ c .minus .ensures
-    ∙ ap₂ (λ (z : ℤ) (n : ℕ). z -ℤ pos n) (toZ-ofZ {w = w64} {z = p .plus .result} (search needs) ∙ plus-is p) (n .zatoshi2 .ensures)
+    let s = c .before .before .before .before .before in
+    omega (arith, not-below (s .args .pool .0) (s .args .old .0) (s .args .new .0) (s .pre))
+
+returns-2 : tie.Need-returns-2
+unfolding poolAfter
+returns-2 c = omega arith
 
 pub moved-spec : {M : Type 1} → statement M
-moved-spec = tie.close (tie.spec (λ c κs. search needs) plus-requires (λ c κs. search needs) minus-requires returns)
+moved-spec =
+    tie.close
+    (tie.spec
+    (λ c κs. search needs)
+    (λ c κs. search needs)
+    (λ c κs. search needs)
+    (λ c. search needs)
+    sub-of-2
+    (λ c κs. search needs)
+    add-of
+    (λ c κs. search needs)
+    returns
+    returns-2)

@@ -6,7 +6,7 @@ ghost use Prim.Native.Nat.{_+_, _*_, _%_};
 ghost use mathlib.Core.List.{[], _∷_, _++_};
 ghost use lib.ListN.{length};
 ghost use Rattle.text.specs.Pen.{pen, Wrote};
-ghost use Rattle.text.specs.Decimal.{decimal, signedBy};
+ghost use Rattle.text.specs.Decimal.{decimal};
 ghost use Rattle.text.specs.Hex.{hexDigit, hexByte, hex, hex64};
 ghost use Rattle.text.specs.Answers.{answerWords, answerLine, spentRowLine, answerAndRow};
 ghost use Rattle.text.specs.Words.{nameLine};
@@ -43,17 +43,6 @@ pub fn put_number(out: &mut [u8], at: usize, n: u64) -> usize
     }
     let next = put_number(out, at, n / 10);
     put_byte(out, next, 48 + (n % 10) as u8)
-}
-
-// A number with its sign: whether it is below zero, and how far from it.
-pub fn put_signed(out: &mut [u8], at: usize, below: bool, size: u64) -> usize
-    ensures { λ r. ⌜ Wrote 21 (signedBy below size) (pen (now (out .entry)) at) (pen (now (out .exit)) r) ⌝ }
-{
-    if below {
-        let next = put(out, at, b"-");
-        return put_number(out, next, size);
-    }
-    put_number(out, at, size)
 }
 
 // The code of the hexadecimal digit of a byte's low four bits.

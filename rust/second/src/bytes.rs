@@ -44,11 +44,6 @@ impl<'a> Reader<'a> {
         self.take().map(u64::from_le_bytes)
     }
 
-    /// The next signed number of eight bytes.
-    pub fn i64(&mut self) -> Option<i64> {
-        self.take().map(i64::from_le_bytes)
-    }
-
     /// The next binary64 number.
     pub fn f64(&mut self) -> Option<f64> {
         self.take().map(f64::from_le_bytes)

@@ -164,6 +164,11 @@ impl Case {
         self.vpub_old.whole() + self.old[0].value.whole() + self.old[1].value.whole()
     }
 
+    /// What acceptance would change the pool by: vpub_old less vpub_new.
+    pub fn asked_of_pool(&self) -> i128 {
+        i128::from(self.vpub_old.0) - i128::from(self.vpub_new.0)
+    }
+
     /// vpub_new plus the new values.
     pub fn value_out(&self) -> u128 {
         self.vpub_new.whole() + self.new[0].value.whole() + self.new[1].value.whole()

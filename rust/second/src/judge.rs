@@ -1,13 +1,13 @@
-//! When the scanner says no: refusals 1 to 16, top to bottom.
+//! When the scanner says no: refusals 1 to 17, top to bottom.
 
 use crate::answer::{Answer, Row, SPENT};
 use crate::bytes::Bytes32;
 use crate::case::{Case, MAX_MONEY, MAX_SUM};
 use crate::hashes;
-use crate::ledger::Ledger;
+use crate::ledger::{is_pool, Ledger};
 use crate::tree::climb;
 
-/// One row of document 01's table: the answer, and when it applies.
+/// One row of the table of refusals: the answer, and when it applies.
 pub struct Rule {
     /// Number and place of what the rule answers. Which row goes with them is
     /// the ledger's to say.
@@ -46,7 +46,7 @@ const fn rule(number: u8, place: u8, applies: fn(&Ledger, &Case) -> bool) -> Rul
 }
 
 /// The refusals of a case of the right length, in order.
-pub const RULES: [Rule; 25] = [
+pub const RULES: [Rule; 26] = [
     rule(2, 0, |ledger, _| ledger.is_damaged()),
     rule(3, 0, |ledger, _| ledger.free_table_rows() < 2),
     rule(4, 0, |_, case| case.vpub_old.0 != 0 && case.vpub_new.0 != 0),
@@ -72,6 +72,7 @@ pub const RULES: [Rule; 25] = [
     rule(15, 2, |_, case| new_rho_is_wrong(case, 1)),
     rule(16, 1, |_, case| commitment_is_wrong(case, 0)),
     rule(16, 2, |_, case| commitment_is_wrong(case, 1)),
+    rule(17, 0, |ledger, case| !is_pool(ledger.pool_after(case))),
 ];
 
 /// Judges a case file: the answer, and the ledger changed only by a pass.

@@ -3,7 +3,7 @@
 
 use crate::answer::{Answer, Row};
 use crate::bytes::Bytes32;
-use crate::case::{Case, MAX_MONEY};
+use crate::case::Case;
 use crate::tree::{empty_root, Record, Tree, DEPTH};
 
 /// The bytes of a table row or a roll row.
@@ -14,6 +14,9 @@ pub const MAX_SPENT: usize = 2_048;
 
 /// The most anchors that a ledger has room for.
 pub const MAX_ANCHORS: usize = 1_024;
+
+/// The most that the pool may hold: 2,100,000,000,000,000.
+pub const MAX_POOL: u64 = 2_100_000_000_000_000;
 
 /// A ledger with the buffers that were lent to it. Every field may hold
 /// anything at all: a ledger from elsewhere may be damaged.
@@ -28,7 +31,7 @@ pub struct Ledger {
     /// Anchors, that is, used roll rows.
     pub anchors: u64,
     /// What has gone in, less what has come out.
-    pub pool: i64,
+    pub pool: u64,
     /// The commitment tree.
     pub tree: Tree,
 }
@@ -113,14 +116,12 @@ impl Ledger {
             || u64::from(self.tree.count()) != self.spent
             || self.anchors == 0
             || self.anchors > self.roll_room()
-            || self.is_pool_too_far()
+            || !is_pool(self.pool.into())
     }
 
-    /// Whether the pool is further from zero than all cases so far could
-    /// have taken it.
-    fn is_pool_too_far(&self) -> bool {
-        let cases = u128::from(self.spent / 2);
-        u128::from(self.pool.unsigned_abs()) > cases * MAX_MONEY.whole()
+    /// What acceptance would leave in the pool, as a whole number.
+    pub fn pool_after(&self, case: &Case) -> i128 {
+        i128::from(self.pool) + case.asked_of_pool()
     }
 
     /// Enters a case that nothing refuses.
@@ -133,7 +134,10 @@ impl Ledger {
         for commitment in &case.commitments {
             self.tree.append(commitment);
         }
-        self.pool = moved_pool(self.pool, case);
+        self.pool = self
+            .pool_after(case)
+            .try_into()
+            .expect("no case is accepted that takes the pool outside its bounds");
     }
 
     /// Closes a block: the current root goes onto the roll.
@@ -178,9 +182,7 @@ fn is_strictly_rising(rows: &[Bytes32]) -> bool {
     rows.windows(2).all(|pair| pair[0] < pair[1])
 }
 
-/// The pool after a case. The public values and the pool of an undamaged
-/// ledger are small enough for the sum to fit.
-fn moved_pool(pool: i64, case: &Case) -> i64 {
-    let moved = i128::from(pool) + i128::from(case.vpub_old.0) - i128::from(case.vpub_new.0);
-    i64::try_from(moved).expect("the pool of an undamaged ledger stays far inside 64 bits")
+/// Whether the pool may be this: no less than nothing, no more than all money.
+pub fn is_pool(amount: i128) -> bool {
+    (0..=i128::from(MAX_POOL)).contains(&amount)
 }

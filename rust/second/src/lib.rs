@@ -1,10 +1,10 @@
 //! An independent second judge of disclosed Sprout JoinSplits.
 //!
-//! It is written from document 01 (the scope), the Zcash drafts and the
-//! standards alone, in ordinary Rust, so that another implementation can be
-//! tried against it. It prefers the plain way to the quick one: it keeps
-//! every leaf, it sorts the table anew after each accepted case, and it
-//! searches from the top.
+//! It is written from document 01 (the scope), document 02 (what is changed of
+//! it), the Zcash drafts and the standards alone, in ordinary Rust, so that
+//! another implementation can be tried against it. It prefers the plain way to
+//! the quick one: it keeps every leaf, it sorts the table anew after each
+//! accepted case, and it searches from the top.
 //!
 //! - The judge: [`judge`], over [`ledger`], [`case`], [`tree`], [`hashes`].
 //! - The wire's pull: [`seal`]. The bag: [`bag`].

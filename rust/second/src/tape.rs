@@ -223,7 +223,7 @@ pub fn read_plant(body: &[u8]) -> Option<Ledger> {
     let mut reader = Reader::new(body);
     let spent = reader.u64()?;
     let anchors = reader.u64()?;
-    let pool = reader.i64()?;
+    let pool = reader.u64()?;
     let record = Record::read(&mut reader)?;
     let (table_length, roll_length) = read_lengths(&mut reader)?;
     let table = reader.run(table_length)?.to_vec();

@@ -13,7 +13,7 @@ use second::answer::Answer;
 use second::bag::{judge_bag, write_bag, MAX_BAG_BYTES};
 use second::case::{Amount, Case, NewNote, OldNote, Position};
 use second::judge::judge;
-use second::ledger::{Ledger, MAX_ANCHORS, MAX_SPENT, ROW_BYTES};
+use second::ledger::{Ledger, MAX_ANCHORS, MAX_POOL, MAX_SPENT, ROW_BYTES};
 use second::random::Random;
 use second::seal::{Gate, Seal};
 use second::tape::plant_body;
@@ -515,7 +515,7 @@ fn a_tree_record_by_the_paper_is_the_one_that_is_written_here() {
 fn a_ledger_by_the_paper_is_the_one_that_a_tape_plants() {
     let formats = Formats::read();
     let mut ledger = Shift::busy(14).ledger;
-    for pool in [ledger.pool, -1, i64::MIN] {
+    for pool in [ledger.pool, MAX_POOL, 1 << 63, u64::MAX] {
         ledger.pool = pool;
         let bytes = formats.ledger_bytes(&ledger);
         assert_eq!(bytes, plant_body(&ledger)[..bytes.len()]);

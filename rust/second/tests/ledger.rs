@@ -4,7 +4,7 @@ mod common;
 
 use common::Shift;
 use second::answer::{Answer, Row};
-use second::ledger::{Ledger, ROW_BYTES};
+use second::ledger::{Ledger, MAX_POOL, ROW_BYTES};
 use second::tree::{empty_root, Record, DEPTH};
 
 #[test]
@@ -73,7 +73,7 @@ fn closing_without_a_free_row_is_refusal_3() {
 #[test]
 fn closing_a_damaged_ledger_is_refusal_2_before_3() {
     let mut shift = Shift::fresh(4, 4, 1);
-    shift.ledger.pool = 1;
+    shift.ledger.pool = MAX_POOL + 1;
     let before = shift.ledger.clone();
     assert_eq!(shift.ledger.close_block(), Answer::new(2, 0));
     assert_eq!(shift.ledger, before);

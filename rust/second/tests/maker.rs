@@ -8,7 +8,7 @@ use second::bytes::{Bytes32, Reader};
 use second::case::{Case, MAX_SUM};
 use second::hashes;
 use second::judge::{all_refusals, first_refusal, Rule, RULES};
-use second::ledger::{Ledger, ROW_BYTES};
+use second::ledger::{Ledger, MAX_POOL, ROW_BYTES};
 use second::maker::bends::BENDS;
 use second::maker::make_tape;
 use second::maker::tampers::TAMPERS;
@@ -721,13 +721,18 @@ const ROW_RUNS: [(&str, &[&str]); 11] = [
     ("row-shifted-by-one", &["case 0 0", "case 8 1", "row 7"]),
 ];
 
+/// The lines of a run.
+fn lines_of<'a>(lines: &'a [String], run: &str) -> impl Iterator<Item = &'a str> {
+    let name = format!("run {run}");
+    let behind = lines.iter().skip_while(move |line| **line != name).skip(1);
+    behind
+        .take_while(|line| !line.starts_with("run "))
+        .map(String::as_str)
+}
+
 /// The lines of a run that are about cases: answers, and rows.
 fn case_lines<'a>(lines: &'a [String], run: &str) -> Vec<&'a str> {
-    let name = format!("run {run}");
-    let behind = lines.iter().skip_while(|line| **line != name).skip(1);
-    let of_run = behind.take_while(|line| !line.starts_with("run "));
-    of_run
-        .map(String::as_str)
+    lines_of(lines, run)
         .filter(|line| line.starts_with("case ") || line.starts_with("row "))
         .collect()
 }
@@ -924,7 +929,7 @@ fn leaked_row(ledger: &Ledger, case: &Case) -> usize {
 fn a_tape_finds_rows_that_go_with_another_answer() {
     for seed in SEEDS {
         let judged = judged_cases(&make_tape(seed, 600).bytes);
-        for number in (0..=16).filter(|number| ![1, SPENT].contains(number)) {
+        for number in (0..=17).filter(|number| ![1, SPENT].contains(number)) {
             let leaks = |(ledger, case): &(Ledger, Case)| {
                 let refusal = first_refusal(ledger, case).unwrap_or(Answer::PASSED);
                 refusal.number == number && leaked_row(ledger, case) != refusal.row.0 as usize
@@ -968,6 +973,271 @@ fn a_long_tape_names_the_row_that_each_of_its_row_searches_planted() {
         }
         // Each row of 2, 4, 6 and 8, and three of 2,046.
         assert_eq!(searches, 23, "seed {seed}");
+    }
+}
+
+/// The runs for the bounds of the pool: what their cases and closings are
+/// answered, and what their ledgers have in the pool.
+const POOL_RUNS: [(&str, &[&str]); 17] = [
+    ("pool-16-before-17", &["case 16 2"]),
+    ("pool-zero-less-one", &["case 17 0", "pool 0"]),
+    ("pool-exactly-zero", &["case 0 0", "pool 0"]),
+    (
+        "pool-exactly-all-money",
+        &["case 0 0", "pool 2100000000000000"],
+    ),
+    (
+        "pool-one-above",
+        &["case 17 0", "block 0 0", "pool 2100000000000000"],
+    ),
+    ("pool-2-before-17", &["case 2 0"]),
+    (
+        "pool-damage-one-above",
+        &["case 2 0", "block 2 0", "pool 2100000000000001"],
+    ),
+    (
+        "pool-damage-2-to-the-63",
+        &["case 2 0", "block 2 0", "pool 9223372036854775808"],
+    ),
+    (
+        "pool-damage",
+        &["case 2 0", "block 2 0", "pool 18446744073709551615"],
+    ),
+    ("pool-order-c-d", &["case 0 0", "case 0 0", "pool 0"]),
+    ("pool-order-d-c", &["case 17 0", "case 0 0", "pool 10"]),
+    (
+        "pool-order-met-c-d",
+        &["case 0 0", "case 0 0", "pool 2100000000000000"],
+    ),
+    (
+        "pool-order-met-d-c",
+        &["case 0 0", "case 0 0", "pool 2100000000000000"],
+    ),
+    (
+        "pool-order-missed-c-d",
+        &["case 0 0", "case 17 0", "pool 2099999999999996"],
+    ),
+    (
+        "pool-order-missed-d-c",
+        &["case 0 0", "case 17 0", "pool 2099999999999995"],
+    ),
+    (
+        "pool-shared-c-d",
+        &["case 0 0", "case 8 2", "row 4", "pool 2099999999999996"],
+    ),
+    (
+        "pool-shared-d-c",
+        &["case 0 0", "case 8 1", "row 4", "pool 2099999999999995"],
+    ),
+];
+
+/// What a line says of a case, a closing or the pool.
+fn said_of_pool(line: &str) -> Option<String> {
+    if let Some((_, behind)) = line.split_once(" pool ") {
+        let pool = behind.split(' ').next()?;
+        return Some(format!("pool {pool}"));
+    }
+    let is_said = ["case ", "row ", "block "]
+        .iter()
+        .any(|word| line.starts_with(word));
+    is_said.then(|| line.to_owned())
+}
+
+#[test]
+fn a_tape_of_600_entries_shows_the_pools_of_its_pool_runs() {
+    for seed in SEEDS {
+        let lines = make_tape(seed, 600).lines;
+        for (run, expected) in POOL_RUNS {
+            let said: Vec<String> = lines_of(&lines, run).filter_map(said_of_pool).collect();
+            assert_eq!(said, expected, "seed {seed}: {run}");
+        }
+    }
+}
+
+#[test]
+fn in_either_order_the_pool_runs_that_pass_leave_the_same_table_and_roll() {
+    for seed in SEEDS {
+        let lines = make_tape(seed, 600).lines;
+        let [one, other] = ["pool-order-met-c-d", "pool-order-met-d-c"].map(|run| {
+            let is_memory = |line: &&str| line.starts_with("memory ");
+            let memory = lines_of(&lines, run).filter(is_memory).last();
+            let words = memory.expect("a look at the memory").split(' ');
+            words.map(str::to_owned).collect::<Vec<String>>()
+        });
+        assert_eq!(one[..3], other[..3], "seed {seed}: table and roll");
+        assert_ne!(one[3], other[3], "seed {seed}: the record's nodes");
+    }
+}
+
+/// The entries of a tape's pool runs that judge or close: the ledger that each
+/// came to, and the case if it is one.
+fn asked_in_pool_runs(tape: &[u8]) -> Vec<(Ledger, Option<Case>)> {
+    let mut player = Player::new();
+    let (mut is_pool_run, mut asked) = (false, Vec::new());
+    for (kind, body) in entries(tape) {
+        if kind == b'N' {
+            is_pool_run = POOL_RUNS.iter().any(|(run, _)| run.as_bytes() == body);
+        }
+        if is_pool_run && b"BC".contains(&kind) {
+            let case = (kind == b'C').then(|| Case::read(body).expect("a right length"));
+            asked.push((player.ledger.clone(), case));
+        }
+        if player.play(kind, body).is_none() {
+            break;
+        }
+    }
+    asked
+}
+
+/// Whether a wrong judge takes a case's pool to be outside its bounds, by what is
+/// in it, what goes in and what comes out.
+type WrongBounds = fn(u64, u64, u64) -> bool;
+
+/// Ways to ask for the bounds that are wrong, each with its name.
+const WRONG_BOUNDS: [(&str, WrongBounds); 14] = [
+    ("asks for none", |_, _, _| false),
+    ("asks for the lower one only", |pool, old, new| {
+        pool + old < new
+    }),
+    ("asks for the upper one only", |pool, old, new| {
+        (pool + old).saturating_sub(new) > MAX_POOL
+    }),
+    ("asks for the pool as it was", |pool, _, _| pool > MAX_POOL),
+    ("refuses all money", |pool, old, new| {
+        pool + old < new || pool + old - new >= MAX_POOL
+    }),
+    ("takes one more than all money", |pool, old, new| {
+        pool + old < new || pool + old - new > MAX_POOL + 1
+    }),
+    ("refuses nothing left", |pool, old, new| {
+        pool + old <= new || pool + old - new > MAX_POOL
+    }),
+    ("takes one less than nothing", |pool, old, new| {
+        pool + old + 1 < new || (pool + old).saturating_sub(new) > MAX_POOL
+    }),
+    ("has a difference that wraps", |pool, old, new| {
+        (pool + old).wrapping_sub(new) as i64 > MAX_POOL as i64
+    }),
+    ("has a change that wraps", |pool, old, new| {
+        old.wrapping_sub(new) > MAX_POOL - pool
+    }),
+    ("has numbers of 32 bits", |pool, old, new| {
+        let after = (pool as u32).checked_add(old as u32);
+        after.is_none_or(|after| after < new as u32)
+    }),
+    ("has in and out exchanged", |pool, old, new| {
+        pool + new < old || pool + new - old > MAX_POOL
+    }),
+    ("leaves out what is in the pool", |_, old, new| {
+        old < new || old - new > MAX_POOL
+    }),
+    ("takes any pool of 51 bits", |pool, old, new| {
+        pool + old < new || (pool + old - new) >> 51 != 0
+    }),
+];
+
+#[test]
+fn the_pool_runs_of_a_tape_find_bounds_that_are_wrong() {
+    for seed in SEEDS {
+        let asked = asked_in_pool_runs(&make_tape(seed, 600).bytes);
+        let judged: Vec<(Ledger, Case)> = asked
+            .into_iter()
+            .filter_map(|(ledger, case)| Some((ledger, case?)))
+            .collect();
+        let found = |is_outside: WrongBounds| {
+            is_found(&judged, Answer::new(17, 0), |ledger, case| {
+                is_outside(ledger.pool, case.vpub_old.0, case.vpub_new.0)
+            })
+        };
+        let right: WrongBounds = |pool, old, new| pool + old < new || pool + old - new > MAX_POOL;
+        assert!(!found(right), "seed {seed}: the right ones");
+        for (name, wrong) in WRONG_BOUNDS {
+            assert!(found(wrong), "seed {seed}: a judge that {name}");
+        }
+    }
+}
+
+#[test]
+fn the_pool_runs_of_a_tape_find_a_17_that_is_asked_too_early() {
+    let last = RULES.len() - 1;
+    assert_eq!(RULES[last].answer, Answer::new(17, 0));
+    for seed in SEEDS {
+        let asked = asked_in_pool_runs(&make_tape(seed, 600).bytes);
+        for earlier in 0..last {
+            let is_told = asked.iter().any(|(ledger, case)| {
+                let Some(case) = case else { return false };
+                let applies = |rule: &Rule| (rule.applies)(ledger, case);
+                let first = RULES.iter().position(applies);
+                applies(&RULES[last]) && first.is_some_and(|first| (earlier..last).contains(&first))
+            });
+            let number = RULES[earlier].answer;
+            assert!(is_told, "seed {seed}: 17 before {number}");
+        }
+    }
+}
+
+/// Whether a wrong judge takes a ledger to be damaged by its pool.
+type WrongDamage = fn(&Ledger) -> bool;
+
+/// Ways to take a pool for damage that are wrong, each with its name.
+const WRONG_DAMAGES: [(&str, WrongDamage); 8] = [
+    ("is never damage", |_| false),
+    ("is asked for as it was before", |ledger| {
+        let far = u128::from(ledger.pool.cast_signed().unsigned_abs());
+        far > u128::from(ledger.spent / 2) * u128::from(MAX_POOL)
+    }),
+    ("is a signed number", |ledger| {
+        ledger.pool.cast_signed() > MAX_POOL as i64
+    }),
+    ("is damage only below zero", |ledger| {
+        ledger.pool.cast_signed() < 0
+    }),
+    ("may not have all money", |ledger| ledger.pool >= MAX_POOL),
+    ("may have one more than all money", |ledger| {
+        ledger.pool > MAX_POOL + 1
+    }),
+    ("has 63 bits", |ledger| ledger.pool << 1 >> 1 > MAX_POOL),
+    ("may have all money for each case", |ledger| {
+        u128::from(ledger.pool) > u128::from(ledger.spent / 2) * u128::from(MAX_POOL)
+    }),
+];
+
+#[test]
+fn the_pool_runs_of_a_tape_find_pools_that_are_wrongly_taken_for_damage_or_not() {
+    for seed in SEEDS {
+        let asked = asked_in_pool_runs(&make_tape(seed, 600).bytes);
+        let found = |wrong: WrongDamage| {
+            asked.iter().any(|(ledger, _)| {
+                let mut without_pool = ledger.clone();
+                without_pool.pool = 0;
+                let is_damaged = without_pool.is_damaged() || wrong(ledger);
+                is_damaged != ledger.is_damaged()
+            })
+        };
+        assert!(!found(|ledger| ledger.pool > MAX_POOL), "the right way");
+        for (name, wrong) in WRONG_DAMAGES {
+            assert!(found(wrong), "seed {seed}: a pool that {name}");
+        }
+    }
+}
+
+#[test]
+fn a_long_tape_takes_the_pool_past_both_bounds_and_mostly_leaves_it_within() {
+    for seed in SEEDS {
+        let judged = judged_cases(&make_tape(seed, 2_000).bytes);
+        let (mut below, mut above, mut passed) = (0, 0, 0);
+        for (ledger, case) in &judged {
+            match first_refusal(ledger, case) {
+                None => passed += 1,
+                Some(refusal) if refusal.number == 17 => {
+                    below += usize::from(ledger.pool_after(case) < 0);
+                    above += usize::from(ledger.pool_after(case) > 0);
+                }
+                Some(_) => (),
+            }
+        }
+        assert!(below > 3 && above > 3, "seed {seed}: {below} and {above}");
+        assert!(4 * passed > judged.len(), "seed {seed}: {passed} accepted");
     }
 }
 

@@ -2,12 +2,13 @@
 
 mod common;
 
-use common::Shift;
+use common::{case_asking, case_over, leaves_of, ledger_for, Shift};
 use second::answer::{Answer, Row};
 use second::case::{Amount, Case};
 use second::judge::judge;
-use second::ledger::Ledger;
+use second::ledger::{Ledger, MAX_POOL};
 use second::maker::bends::BENDS;
+use second::random::Random;
 use second::wallet::{balance, idle_note, set_nullifiers};
 
 /// Judges two files one after the other, on a copy: number and place of the
@@ -48,9 +49,29 @@ fn share_a_nullifier(one: &[u8], other: &[u8]) -> bool {
     nullifiers(one).iter().any(|row| others.contains(row))
 }
 
-/// The ledger must have room for both cases; they share no nullifier.
+/// What a file asks the pool to change by, be it accepted or not. One of a wrong
+/// length asks for nothing.
+fn asked_of_pool(file: &[u8]) -> i128 {
+    Case::read(file).map_or(0, |case| {
+        i128::from(case.vpub_old.0) - i128::from(case.vpub_new.0)
+    })
+}
+
+/// Whether the pool is in its bounds with what each of two files asks for, taken
+/// alone, and with what both do. Else nothing is claimed of their order.
+fn pool_is_in_bounds(ledger: &Ledger, one: &[u8], other: &[u8]) -> bool {
+    let [one, other] = [one, other].map(asked_of_pool);
+    let pools = [one, other, one + other].map(|asked| i128::from(ledger.pool) + asked);
+    pools
+        .iter()
+        .all(|pool| (0..=2_100_000_000_000_000).contains(pool))
+}
+
+/// The ledger must have room for both cases; they share no nullifier and leave
+/// the pool in its bounds.
 fn check_two_orders(ledger: &Ledger, one: &[u8], other: &[u8]) -> bool {
     assert!(ledger.free_table_rows() >= 4);
+    assert!(pool_is_in_bounds(ledger, one, other));
     let alone = [judge_alone(ledger, one), judge_alone(ledger, other)];
     let (ended, answers) = judge_both(ledger, [one, other]);
     let (ended_too, answers_too) = judge_both(ledger, [other, one]);
@@ -88,7 +109,8 @@ fn two_cases_get_the_same_answers_in_either_order() {
         for _ in 0..10 {
             let one = any_file(&mut shift);
             let other = any_file(&mut shift);
-            if share_a_nullifier(&one, &other) {
+            let is_in_bounds = pool_is_in_bounds(&shift.ledger, &one, &other);
+            if share_a_nullifier(&one, &other) || !is_in_bounds {
                 continue;
             }
             tried += 1;
@@ -97,6 +119,123 @@ fn two_cases_get_the_same_answers_in_either_order() {
     }
     assert!(tried > 250, "only {tried} pairs tried");
     assert!(passed > 40, "only {passed} pairs passed");
+}
+
+/// Files of two cases that change the pool by so much, and a ledger for both.
+fn two_asking(pool: u64, changes: [i64; 2]) -> (Ledger, [Vec<u8>; 2]) {
+    let mut random = Random::new(pool);
+    let cases = changes.map(|change| case_asking(&mut random, change));
+    let ledger = ledger_for(pool, &[&cases[0], &cases[1]]);
+    (ledger, cases.map(|case| case.to_bytes()))
+}
+
+const PASSED: Answer = Answer::PASSED;
+const OUTSIDE: Answer = Answer::new(17, 0);
+
+/// All money, as a change of the pool.
+const ALL: i64 = MAX_POOL as i64;
+
+#[test]
+fn two_cases_that_just_leave_the_pool_in_its_bounds_may_come_in_either_order() {
+    for (pool, changes) in [
+        (MAX_POOL - 11, [6, 5]),
+        (11, [-6, -5]),
+        (10, [10, -10]),
+        (MAX_POOL - 10, [10, -10]),
+        (0, [0, ALL]),
+        (MAX_POOL, [0, -ALL]),
+        (0, [ALL - 1, 1]),
+    ] {
+        let (ledger, [one, other]) = two_asking(pool, changes);
+        assert!(pool_is_in_bounds(&ledger, &one, &other));
+        let answers = [
+            judge_both(&ledger, [&one, &other]),
+            judge_both(&ledger, [&other, &one]),
+        ];
+        let [(ended, both), (ended_too, both_too)] = answers;
+        assert_eq!([both, both_too], [[PASSED; 2]; 2], "{pool} {changes:?}");
+        assert_eq!(ended.pool, ended_too.pool);
+        assert_eq!(ended.table, ended_too.table);
+        assert_eq!(
+            i128::from(ended.pool),
+            i128::from(pool) + i128::from(changes[0] + changes[1])
+        );
+    }
+}
+
+#[test]
+fn the_order_shows_where_one_of_two_cases_alone_takes_the_pool_outside() {
+    for (pool, changes) in [
+        (0, [10, -10]),
+        (9, [1, -10]),
+        (MAX_POOL, [-10, 10]),
+        (MAX_POOL - 9, [-1, 10]),
+        (0, [ALL, -ALL]),
+        (MAX_POOL, [-ALL, ALL]),
+    ] {
+        let (ledger, [c, d]) = two_asking(pool, changes);
+        assert!(!pool_is_in_bounds(&ledger, &c, &d));
+        assert_eq!(judge_alone(&ledger, &d), OUTSIDE);
+        assert_eq!(judge_both(&ledger, [&c, &d]).1, [PASSED, PASSED], "{pool}");
+        assert_eq!(judge_both(&ledger, [&d, &c]).1, [OUTSIDE, PASSED], "{pool}");
+    }
+}
+
+#[test]
+fn the_later_one_is_refused_where_only_both_take_the_pool_outside() {
+    for (pool, changes) in [
+        (MAX_POOL - 10, [6, 5]),
+        (10, [-6, -5]),
+        (0, [ALL, 1]),
+        (MAX_POOL, [-ALL, -1]),
+    ] {
+        let (ledger, [c, d]) = two_asking(pool, changes);
+        assert!(!pool_is_in_bounds(&ledger, &c, &d));
+        for files in [[&c[..], &d[..]], [&d[..], &c[..]]] {
+            assert_eq!(judge_alone(&ledger, files[0]), PASSED);
+            let (ended, answers) = judge_both(&ledger, files);
+            assert_eq!(answers, [PASSED, OUTSIDE], "{pool}");
+            let first = i128::from(pool) + asked_of_pool(files[0]);
+            assert_eq!(i128::from(ended.pool), first, "the pools end apart");
+        }
+    }
+}
+
+#[test]
+fn what_a_refused_case_asks_for_counts_and_what_a_cut_one_asks_for_does_not() {
+    let (ledger, [c, mut d]) = two_asking(MAX_POOL - 10, [6, 5]);
+    // A commitment of d is wrong: it is refused with 16 in either order.
+    d[112] ^= 1;
+    assert!(!pool_is_in_bounds(&ledger, &c, &d));
+    let wrong = Answer::new(16, 1);
+    assert_eq!(judge_both(&ledger, [&c, &d]).1, [PASSED, wrong]);
+    assert_eq!(judge_both(&ledger, [&d, &c]).1, [wrong, PASSED]);
+    d.pop();
+    assert!(pool_is_in_bounds(&ledger, &c, &d));
+    let cut = Answer::new(1, 0);
+    assert_eq!(judge_both(&ledger, [&c, &d]).1, [PASSED, cut]);
+    assert_eq!(judge_both(&ledger, [&d, &c]).1, [cut, PASSED]);
+}
+
+#[test]
+fn a_shared_nullifier_is_refused_as_spent_where_both_take_the_pool_outside() {
+    let mut random = Random::new(20);
+    for (pool, [first, then]) in [(MAX_POOL - 10, [6, 5]), (0, [MAX_POOL, 1])] {
+        let notes = leaves_of(&mut random, [0, 0]);
+        let c = case_over(&mut random, notes.clone(), first, 0);
+        let mut d = case_over(&mut random, notes, then, 0);
+        d.old[0] = idle_note(&mut random);
+        set_nullifiers(&mut d);
+        let ledger = ledger_for(pool, &[&c, &d]);
+        let [c, d] = [c, d].map(|case| case.to_bytes());
+        assert!(share_a_nullifier(&c, &d) && !pool_is_in_bounds(&ledger, &c, &d));
+        for files in [[&c[..], &d[..]], [&d[..], &c[..]]] {
+            assert_eq!(judge_alone(&ledger, files[0]), PASSED);
+            assert_eq!(judge_alone(&ledger, files[1]), PASSED);
+            let (_, answers) = judge_both(&ledger, files);
+            assert_eq!(answers, [PASSED, Answer::new(8, 2)]);
+        }
+    }
 }
 
 /// Another good case with one of the same old notes.

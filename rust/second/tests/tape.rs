@@ -209,14 +209,14 @@ fn seals_print_the_pull_when_they_pass() {
 #[test]
 fn any_ledger_can_be_planted() {
     let mut shift = Shift::busy(3);
-    shift.ledger.pool = -5;
+    shift.ledger.pool = u64::MAX - 4;
     let planted = read_plant(&plant_body(&shift.ledger)).expect("a sound body");
     assert_eq!(planted.table, shift.ledger.table);
     assert_eq!(planted.roll, shift.ledger.roll);
     assert_eq!(planted.tree.record(), shift.ledger.tree.record());
     assert_eq!(planted.tree.leaves(), None);
     let tape = [planting(&shift.ledger), entry(b'L', &[])].concat();
-    let counts = "spent 14 leaves 14 anchors 4 pool -5";
+    let counts = "spent 14 leaves 14 anchors 4 pool 18446744073709551611";
     let root = shift.ledger.tree.root();
     let expected = ["plant 0 0", &ledger_line(counts, &root)];
     assert_eq!(play(&tape), expected);
@@ -225,11 +225,11 @@ fn any_ledger_can_be_planted() {
 #[test]
 fn a_plant_s_body_lies_as_agreed() {
     let mut ledger = Ledger::zeroed(vec![1, 2], vec![3, 4, 5]);
-    (ledger.spent, ledger.anchors, ledger.pool) = (6, 7, -8);
+    (ledger.spent, ledger.anchors, ledger.pool) = (6, 7, u64::MAX - 7);
     let body = plant_body(&ledger);
     assert_eq!(body[..8], 6u64.to_le_bytes());
     assert_eq!(body[8..16], 7u64.to_le_bytes());
-    assert_eq!(body[16..24], (-8i64).to_le_bytes());
+    assert_eq!(body[16..24], [248, 255, 255, 255, 255, 255, 255, 255]);
     assert_eq!(body[24..988], [0; 964]);
     assert_eq!(body[988..992], 2u32.to_le_bytes());
     assert_eq!(body[992..996], 3u32.to_le_bytes());

@@ -8,6 +8,7 @@ use crate::answer::Answer;
 use crate::bytes::Bytes32;
 use crate::case::{Amount, Case, OldNote, Position, CASE_BYTES, MAX_MONEY, MAX_SUM};
 use crate::hashes;
+use crate::ledger::MAX_POOL;
 use crate::random::Random;
 use crate::sha256::sha256;
 use crate::tree::FULL;
@@ -80,12 +81,6 @@ const PLAIN: &[Bend] = &[
     bend(0, 0, "proof", proof),
     bend(0, 0, "ciphertext 1", |b, c| ciphertext(b, c, 0)),
     bend(0, 0, "ciphertext 2", |b, c| ciphertext(b, c, 1)),
-    bend(0, 0, "vpub_old at its most", |b, c| {
-        public(b, c, MAX_MONEY, Amount::ZERO)
-    }),
-    bend(0, 0, "vpub_new at its most", |b, c| {
-        public(b, c, Amount::ZERO, MAX_MONEY)
-    }),
     bend(0, 0, "nothing of value", nothing_of_value),
     bend(0, 0, "idle note 1 elsewhere", |b, c| {
         idle_elsewhere(b, c, 0)
@@ -320,6 +315,22 @@ const PLAIN: &[Bend] = &[
     bend(16, 2, "value 2 committed highest byte first", |_, c| {
         value_reversed(c, 1)
     }),
+    bend(17, 0, "pool one above its most", |b, c| {
+        let above = pool_room(b)? + 1;
+        public_up_to_all_money(b, c, Amount(above), Amount::ZERO)
+    }),
+    bend(17, 0, "pool one below zero", |b, c| {
+        let below = b.purse.pool.checked_add(1)?;
+        public_up_to_all_money(b, c, Amount::ZERO, Amount(below))
+    }),
+    bend(17, 0, "vpub_old at its most", |b, c| {
+        (pool_room(b)? < MAX_MONEY.0).then_some(())?;
+        public(b, c, MAX_MONEY, Amount::ZERO)
+    }),
+    bend(17, 0, "vpub_new at its most", |b, c| {
+        (b.purse.pool < MAX_MONEY.0).then_some(())?;
+        public(b, c, Amount::ZERO, MAX_MONEY)
+    }),
 ];
 
 /// The bend of this name, which must be one of those above.
@@ -400,7 +411,23 @@ fn public(b: &mut Bench, mut case: Case, vpub_old: Amount, vpub_new: Amount) -> 
     balance(b.random, &mut case).then_some(case)
 }
 
-/// The same, but if it cannot be balanced it is left unbalanced.
+/// The same, if neither public value is above all money.
+fn public_up_to_all_money(
+    b: &mut Bench,
+    case: Case,
+    vpub_old: Amount,
+    vpub_new: Amount,
+) -> Option<Case> {
+    (vpub_old.max(vpub_new) <= MAX_MONEY).then_some(())?;
+    public(b, case, vpub_old, vpub_new)
+}
+
+/// What the pool can still take, if it is in its bounds.
+fn pool_room(b: &Bench) -> Option<u64> {
+    MAX_POOL.checked_sub(b.purse.pool)
+}
+
+/// Sets the public values and balances the case, or leaves it unbalanced.
 fn public_or_unbalanced(
     b: &mut Bench,
     mut case: Case,

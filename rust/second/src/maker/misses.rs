@@ -58,7 +58,7 @@ fn open_on_ones(maker: &mut Maker, table: usize, roll: usize) {
         roll: vec![255; roll],
         spent: u64::MAX,
         anchors: u64::MAX,
-        pool: -1,
+        pool: u64::MAX,
         tree: Tree::planted(Record {
             count: u32::MAX,
             nodes: [[255; 32]; DEPTH + 1],
@@ -151,13 +151,13 @@ fn rows_around_nullifiers(maker: &mut Maker) {
 const HALF: u64 = 1 << 32;
 
 /// Values of a case: public in and out, and the two old notes'.
-struct Values {
+pub(super) struct Values {
     vpub_old: u64,
     vpub_new: u64,
     old: [u64; 2],
 }
 
-const fn values(vpub_old: u64, old: [u64; 2], vpub_new: u64) -> Values {
+pub(super) const fn values(vpub_old: u64, old: [u64; 2], vpub_new: u64) -> Values {
     Values {
         vpub_old,
         vpub_new,
@@ -182,7 +182,7 @@ fn sums_near_a_half(maker: &mut Maker) {
     for values in NEAR_A_HALF {
         maker.name("sums-near-2-to-the-32");
         let case = balanced_case(&mut maker.random, &values);
-        plant_anchor(maker, &case.anchor);
+        plant_for(maker, &case);
         let right = case.value_in() - case.vpub_new.whole();
         let half = u128::from(HALF);
         for wrong in [
@@ -239,7 +239,7 @@ fn sums_near_the_ceiling(maker: &mut Maker) {
     for values in AT_THE_CEILING {
         maker.name("sums-at-the-ceiling");
         let case = balanced_case(&mut maker.random, &values);
-        plant_anchor(maker, &case.anchor);
+        plant_for(maker, &case);
         maker.judge(&case, Answer::PASSED, "sums at the ceiling");
         maker.look_at_ledger();
         maker.leave_ledger();
@@ -249,7 +249,7 @@ fn sums_near_the_ceiling(maker: &mut Maker) {
         let mut case = balanced_case(&mut maker.random, &values);
         let total = case.value_in() - case.vpub_new.whole();
         set_new_values(&mut case, heaped(total));
-        plant_anchor(maker, &case.anchor);
+        plant_for(maker, &case);
         maker.judge(&case, Answer::new(11, 0), "sums above the ceiling");
         maker.look_at_ledger();
         maker.leave_ledger();
@@ -261,7 +261,7 @@ fn sums_near_the_ceiling(maker: &mut Maker) {
 fn ceiling_in_its_place(maker: &mut Maker) {
     maker.name("ceiling-after-10-before-12");
     let case = balanced_case(&mut maker.random, &ABOVE_THE_CEILING[0]);
-    plant_anchor(maker, &case.anchor);
+    plant_for(maker, &case);
     let mut strayed = case.clone();
     maker.random.flip_bit(&mut strayed.old[0].path[0]);
     maker.judge(&strayed, Answer::new(10, 1), "above the ceiling, 10 too");
@@ -283,7 +283,7 @@ fn halved(total: u128) -> [Amount; 2] {
 }
 
 /// A right case over two notes that are the only leaves of a tree.
-fn balanced_case(random: &mut Random, values: &Values) -> Case {
+pub(super) fn balanced_case(random: &mut Random, values: &Values) -> Case {
     let notes = values.old.map(|value| Note::random(random, Amount(value)));
     let leaves = [notes[0].commitment(), notes[1].commitment()];
     let old = [0, 1].map(|place| {
@@ -306,13 +306,22 @@ fn balanced_case(random: &mut Random, values: &Values) -> Case {
     case
 }
 
-/// A ledger from elsewhere whose roll begins with this anchor.
-fn plant_anchor(maker: &mut Maker, anchor: &Bytes32) {
-    maker.purse = Purse::from_elsewhere(&mut maker.random, &[Amount(1)]);
-    let rows = [[1; 32], [2; 32]];
-    let table = ragged_length(&mut maker.random, rows.len() + 2);
-    let mut ledger = ledger_from_elsewhere(maker, &rows, table, 3);
-    ledger.pool = 0;
-    write_row(&mut ledger.roll, 0, anchor);
+/// Plants a ledger for this case: its pool has just what the case takes out.
+fn plant_for(maker: &mut Maker, case: &Case) {
+    let ledger = ledger_for(maker, 2, case.vpub_new.0, &[case]);
     maker.plant(&ledger, "anchor of two notes");
+}
+
+/// A ledger from elsewhere with so many rows and this in its pool, whose roll
+/// begins with the anchors of these cases and whose table has room for them.
+pub(super) fn ledger_for(maker: &mut Maker, rows: u8, pool: u64, cases: &[&Case]) -> Ledger {
+    maker.purse = Purse::from_elsewhere(&mut maker.random, &[Amount(1)]);
+    let rows: Vec<Bytes32> = (1..=rows).map(|row| [row; 32]).collect();
+    let table = ragged_length(&mut maker.random, rows.len() + 2 * cases.len());
+    let mut ledger = ledger_from_elsewhere(maker, &rows, table, 3);
+    ledger.pool = pool;
+    for (row, case) in cases.iter().enumerate() {
+        write_row(&mut ledger.roll, row, &case.anchor);
+    }
+    ledger
 }

@@ -9,6 +9,7 @@ pub mod bends;
 mod coverage;
 mod edges;
 mod misses;
+mod pools;
 pub mod purse;
 mod rows;
 mod scenes;
@@ -21,7 +22,7 @@ use std::collections::HashMap;
 use crate::answer::{Answer, Row, SPENT};
 use crate::case::{Case, CASE_BYTES};
 use crate::judge::all_refusals;
-use crate::ledger::Ledger;
+use crate::ledger::{Ledger, MAX_POOL};
 use crate::random::Random;
 use crate::tape::{entry, plant_body, play, Player};
 use crate::wallet::set_nullifiers;
@@ -243,6 +244,19 @@ impl Maker {
     fn good_case(&mut self) {
         let case = self.purse.good_case(&mut self.random);
         self.judge(&case, Answer::PASSED, "good case");
+    }
+
+    /// A case that may take the pool outside its bounds. Whether it does is found
+    /// by another way than the judge's.
+    fn careless_case(&mut self) {
+        let case = self.purse.careless_case(&mut self.random);
+        let filled = self.purse.pool.checked_add(case.vpub_old.0);
+        let left = filled.and_then(|filled| filled.checked_sub(case.vpub_new.0));
+        let answer = match left {
+            Some(left) if left <= MAX_POOL => Answer::PASSED,
+            _ => Answer::new(17, 0),
+        };
+        self.judge(&case, answer, "case without regard to the pool");
     }
 
     /// A bent case.
@@ -519,15 +533,16 @@ impl Maker {
         self.purse = Purse::fresh(&mut self.random);
     }
 
-    /// Plants a ledger; the purse must be set to fit.
+    /// Plants a ledger; the purse must be set to fit, but for its pool.
     fn plant(&mut self, ledger: &Ledger, purpose: &str) {
         self.leave_ledger();
+        self.purse.pool = ledger.pool;
         let body = plant_body(ledger);
         self.put(b'P', &body, Some(format!("planted: {purpose}")));
     }
 }
 
-/// Answers 4 to 16 that stand one after the other in the table. Both public
+/// Answers 4 to 17 that stand one after the other in the table. Both public
 /// values cannot be too high without refusal 4.
 fn neighbours() -> Vec<(Answer, Answer)> {
     let mut answers: Vec<Answer> = BENDS.iter().map(|bend| bend.answer).collect();

@@ -1,9 +1,10 @@
-//! The purse: the notes of one shift, and the tree and anchors by which
-//! they can be spent.
+//! The purse: the notes of one shift, the tree and anchors by which they can
+//! be spent, and what the pool holds.
 
 use crate::bytes::Bytes32;
 use crate::case::{Amount, Case, OldNote, Position, MAX_MONEY, MAX_SUM};
 use crate::hashes;
+use crate::ledger::MAX_POOL;
 use crate::random::Random;
 use crate::tree::{empty_root, path_of_leaf, root_of_leaves, Node, DEPTH};
 use crate::wallet::{idle_note, split, write_case, Note, Plan};
@@ -45,6 +46,8 @@ pub struct Purse {
     pub strangers: Vec<Held>,
     /// Whether accepted cases add to the tree that we know.
     grows: bool,
+    /// What the ledger's pool holds: a good case leaves it in its bounds.
+    pub pool: u64,
 }
 
 impl Purse {
@@ -61,12 +64,14 @@ impl Purse {
             spent: Vec::new(),
             strangers: Vec::new(),
             grows: true,
+            pool: 0,
         }
     }
 
     /// A purse with notes of these values in a tree of its own, one after
     /// the other ours and a stranger's. Its two anchors cover some of the
-    /// leaves and all of them. New notes never come into its tree.
+    /// leaves and all of them. New notes never come into its tree. What the
+    /// pool holds has nothing to do with the notes: it is often at a bound.
     pub fn from_elsewhere(random: &mut Random, values: &[Amount]) -> Purse {
         let mut purse = Purse::fresh(random);
         for value in values {
@@ -81,6 +86,7 @@ impl Purse {
         purse.anchors.push(purse.anchor_over(covers));
         purse.anchors.push(purse.anchor_over(purse.leaves.len()));
         purse.stop_growing();
+        purse.pool = any_pool(random);
         purse
     }
 
@@ -140,6 +146,7 @@ impl Purse {
         for old in &case.old {
             self.mark_spent(old);
         }
+        self.pool = self.pool + case.vpub_old.0 - case.vpub_new.0;
         if !self.grows {
             return;
         }
@@ -221,20 +228,30 @@ impl Purse {
 
     /// A case that the rules accept, at a random anchor.
     pub fn good_case(&self, random: &mut Random) -> Case {
-        let last = self.anchors[self.anchors.len() - 1];
-        let anchor = if random.one_in(3) {
-            *random.pick(&self.anchors)
-        } else {
-            last
-        };
+        let anchor = self.choose_anchor(random);
         self.case_at(random, anchor)
     }
 
-    /// A case that is right in all but, perhaps, its anchor.
+    /// A case that is right in all but, perhaps, its anchor. What it puts into
+    /// the pool mostly leaves room for others.
     pub fn case_at(&self, random: &mut Random, anchor: Anchor) -> Case {
+        let room = MAX_POOL.saturating_sub(self.pool);
+        let most_in = if random.one_in(8) { room } else { room / 4 };
+        let most_out = self.pool.min(MAX_POOL);
+        self.case_within(random, anchor, [most_in, most_out])
+    }
+
+    /// A case that is right but for, perhaps, where it takes the pool.
+    pub fn careless_case(&self, random: &mut Random) -> Case {
+        let anchor = self.choose_anchor(random);
+        self.case_within(random, anchor, [MAX_MONEY.0, MAX_MONEY.0])
+    }
+
+    /// A case that puts in, or takes out, at most so much.
+    fn case_within(&self, random: &mut Random, anchor: Anchor, most: [u64; 2]) -> Case {
         let old = self.choose_old(random, anchor);
         let in_notes = old[0].value.whole() + old[1].value.whole();
-        let (vpub_old, vpub_new) = choose_public(random, in_notes);
+        let (vpub_old, vpub_new) = choose_public(random, in_notes, most);
         let total = in_notes + vpub_old.whole() - vpub_new.whole();
         let values = split(random, total).expect("the public values leave what two notes hold");
         let new = values.map(|value| (self.choose_recipient(random), value));
@@ -246,6 +263,16 @@ impl Purse {
             new,
         };
         write_case(random, plan)
+    }
+
+    /// Mostly the last one.
+    fn choose_anchor(&self, random: &mut Random) -> Anchor {
+        let last = self.anchors[self.anchors.len() - 1];
+        if random.one_in(3) {
+            *random.pick(&self.anchors)
+        } else {
+            last
+        }
     }
 
     /// The notes that can be spent at this anchor, in a random order.
@@ -294,15 +321,24 @@ pub fn sum_of(notes: &[&Held]) -> u128 {
     notes.iter().map(|held| held.note.value.whole()).sum()
 }
 
-/// Public values, one of them zero, for old notes of this value.
-fn choose_public(random: &mut Random, in_notes: u128) -> (Amount, Amount) {
-    let most_in = MAX_MONEY.whole().min(MAX_SUM - in_notes);
-    let most_out = MAX_MONEY.whole().min(in_notes);
+/// Public values, one of them zero, for old notes of this value: so much may go
+/// in, or come out.
+fn choose_public(random: &mut Random, in_notes: u128, most: [u64; 2]) -> (Amount, Amount) {
+    let [most_in, most_out] = most.map(u128::from);
     match random.below(3) {
-        0 => (Amount::ZERO, choose_amount(random, most_out)),
+        0 => (Amount::ZERO, choose_amount(random, most_out.min(in_notes))),
         1 if in_notes > 0 => (Amount::ZERO, Amount::ZERO),
-        _ => (choose_amount(random, most_in), Amount::ZERO),
+        _ => {
+            let amount = choose_amount(random, most_in.min(MAX_SUM - in_notes));
+            (amount, Amount::ZERO)
+        }
     }
+}
+
+/// What the pool of a ledger from elsewhere may hold.
+fn any_pool(random: &mut Random) -> u64 {
+    let between = random.between(0, MAX_POOL.into()) as u64;
+    *random.pick(&[0, 1, MAX_POOL - 1, MAX_POOL, between, between])
 }
 
 /// An amount up to this one, often a round one or the most.

@@ -9,7 +9,7 @@
 use crate::answer::{Answer, Row};
 use crate::bytes::Bytes32;
 use crate::case::{Amount, Case};
-use crate::ledger::{Ledger, MAX_SPENT, ROW_BYTES};
+use crate::ledger::{Ledger, MAX_POOL, MAX_SPENT, ROW_BYTES};
 use crate::random::Random;
 use crate::tape::MAX_TABLE_BYTES;
 use crate::wallet::{balance, write_case, Note, Plan};
@@ -145,7 +145,7 @@ fn row_with(random: &mut Random, first_byte: u8) -> Bytes32 {
 }
 
 /// Notes without value whose nullifiers begin with these bytes.
-fn notes_with<const N: usize>(maker: &mut Maker, first_bytes: [u8; N]) -> [Note; N] {
+pub(super) fn notes_with<const N: usize>(maker: &mut Maker, first_bytes: [u8; N]) -> [Note; N] {
     first_bytes.map(|byte| note_with(&mut maker.random, byte))
 }
 
@@ -166,11 +166,20 @@ fn judge_notes(maker: &mut Maker, notes: [&Note; 2], answer: Answer) {
     maker.judge(&case, answer, "nullifiers of chosen rows");
 }
 
-/// A right case over two notes without value, at an anchor of the purse.
+/// A right case over two notes without value. It puts a little in, if the pool
+/// can take it.
 fn case_over(maker: &mut Maker, notes: [&Note; 2]) -> Case {
+    let little = 1 + maker.random.below(1_000) as u64;
+    let amount = little.min(MAX_POOL - maker.purse.pool);
+    case_putting(maker, notes, Amount(amount))
+}
+
+/// A right case over two notes without value, at an anchor of the purse, that
+/// puts this much in.
+pub(super) fn case_putting(maker: &mut Maker, notes: [&Note; 2], amount: Amount) -> Case {
     let random = &mut maker.random;
     let plan = Plan {
-        vpub_old: Amount(1 + random.below(1_000) as u64),
+        vpub_old: amount,
         vpub_new: Amount::ZERO,
         anchor: maker.purse.anchors()[0].root,
         old: notes.map(|note| note.nowhere(random)),

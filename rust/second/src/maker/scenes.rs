@@ -3,7 +3,7 @@
 use crate::answer::Answer;
 use crate::bytes::Bytes32;
 use crate::case::{Amount, Case, OldNote, Position, CASE_BYTES, MAX_MONEY};
-use crate::ledger::{Ledger, MAX_ANCHORS, MAX_SPENT, ROW_BYTES};
+use crate::ledger::{is_pool, Ledger, MAX_ANCHORS, MAX_POOL, MAX_SPENT, ROW_BYTES};
 use crate::random::Random;
 use crate::tape::{
     entry, plant_body, MAX_BODY_BYTES, MAX_ROLL_BYTES, MAX_TABLE_BYTES, ROWS_BEYOND,
@@ -13,11 +13,12 @@ use crate::wallet::{balance, idle_note, set_nullifiers, write_case, Note, Plan};
 
 use super::bends::{bend_named, BENDS};
 use super::misses::near_misses;
+use super::pools::pool_runs;
 use super::purse::Purse;
 use super::rows::{last_of_the_longest, spent_in_a_full_table, spent_rows};
 use super::seals::KINDS;
 use super::searches::searches;
-use super::tampers::{fill_spare_bytes, fill_unused_nodes, most_pool, TAMPERS};
+use super::tampers::{fill_spare_bytes, fill_unused_nodes, TAMPERS};
 use super::{Made, Maker};
 
 /// What is done on a tape.
@@ -27,7 +28,7 @@ type Act = fn(&mut Maker);
 type Scene = (&'static str, Act);
 
 /// Every tape that is long enough has each of these, in a random order.
-const FIRST: [Scene; 15] = [
+const FIRST: [Scene; 14] = [
     ("one-of-each", one_of_each),
     ("bench", bench),
     ("bench", bench),
@@ -39,7 +40,6 @@ const FIRST: [Scene; 15] = [
     ("anywhere", anywhere),
     ("wrong-lengths", wrong_lengths),
     ("big-table-with-room", big_table_with_room),
-    ("big-table-without-room", big_table_without_room),
     ("full-roll", full_roll),
     ("deep-records", deep_records),
     ("order", order),
@@ -112,9 +112,12 @@ impl Maker {
         }
         if self.wanted >= LONG_TAPE {
             self.is_beside = true;
+            self.name("big-table-without-room");
+            big_table_without_room(self);
             beyond_the_limits(self);
             near_misses(self);
             spent_rows(self);
+            pool_runs(self);
         }
         if self.wanted > LONG_TAPE {
             searches(self);
@@ -190,7 +193,8 @@ fn day(maker: &mut Maker) {
 
 /// A day of one step of each kind.
 fn one_of_each(maker: &mut Maker) {
-    let mut steps: [Act; 7] = [
+    let mut steps: [Act; 8] = [
+        Maker::careless_case,
         Maker::pair_case,
         Maker::mended_case,
         Maker::replayed_case,
@@ -229,8 +233,9 @@ fn open_for_a_day(maker: &mut Maker) {
 
 fn step(maker: &mut Maker) {
     match maker.random.below(100) {
-        0..=21 => maker.good_case(),
-        22..=54 => maker.bent_case(),
+        0..=18 => maker.good_case(),
+        19..=24 => maker.careless_case(),
+        25..=54 => maker.bent_case(),
         55..=64 => maker.pair_case(),
         65..=68 => maker.mended_case(),
         69..=71 => maker.replayed_case(),
@@ -255,17 +260,20 @@ fn bench(maker: &mut Maker) {
         maker.close_block();
     }
     maker.good_case();
-    due_cases(maker);
+    let left = due_cases(maker, DUE_AT_ONCE);
+    // Once the block is closed, the notes of the cases so far can be spent.
+    if left > 0 && !maker.is_nothing_due() {
+        maker.close_block();
+        due_cases(maker, left);
+    }
     maker.look_at_ledger();
 }
 
-/// Works off what is due and can be made here.
-fn due_cases(maker: &mut Maker) {
-    for _ in 0..DUE_AT_ONCE {
-        if !maker.due_case() {
-            break;
-        }
-    }
+/// Works off what is due and can be made here, at most so much, and gives back
+/// how much more it might have been.
+fn due_cases(maker: &mut Maker, most: usize) -> usize {
+    let made = (0..most).take_while(|_| maker.due_case()).count();
+    most - made
 }
 
 /// Plants the ledger as it is, with random bytes in every unused part.
@@ -339,7 +347,7 @@ fn try_planted(maker: &mut Maker) {
     let is_on_roll = maker.player.ledger.has_anchor(&case.anchor);
     let answer = Answer::new(if is_on_roll { 0 } else { 6 }, 0);
     maker.judge(&case, answer, "good case");
-    match maker.random.below(18) {
+    match maker.random.below(24) {
         0 => maker.look_at_rows(),
         1 => maker.look_at_ledger(),
         2 => maker.wrong_length(),
@@ -418,7 +426,7 @@ pub(super) fn write_row(buffer: &mut [u8], row: usize, bytes: &Bytes32) {
 
 /// A day on a ledger from elsewhere.
 fn elsewhere(maker: &mut Maker) {
-    plant_elsewhere(maker);
+    plant_elsewhere(maker, None);
     for _ in 0..6 + maker.random.below(8) {
         step(maker);
     }
@@ -426,20 +434,23 @@ fn elsewhere(maker: &mut Maker) {
     maker.look_at_rows();
 }
 
-/// Some due bends need notes of values that no ledger grown here has. Two of
-/// them seldom come into one case, so they are tried for longer.
+/// Some due bends need notes of values that no ledger grown here has, and a pool
+/// between its bounds. Two of those notes seldom come into one case, so they are
+/// tried for longer.
 fn bench_elsewhere(maker: &mut Maker) {
-    plant_elsewhere(maker);
+    let between = maker.random.between(1, u128::from(MAX_POOL) - 1);
+    plant_elsewhere(maker, Some(between as u64));
     for _ in 0..5 {
-        due_cases(maker);
+        due_cases(maker, DUE_AT_ONCE);
     }
     maker.look_at_ledger();
 }
 
 /// A ledger that was never grown here: any record, any rows, notes of any
-/// value in a tree of their own.
-fn plant_elsewhere(maker: &mut Maker) {
+/// value in a tree of their own, this in its pool or any amount.
+fn plant_elsewhere(maker: &mut Maker, pool: Option<u64>) {
     maker.purse = Purse::from_elsewhere(&mut maker.random, &ODD_VALUES);
+    maker.purse.pool = pool.unwrap_or(maker.purse.pool);
     let mut spent = Vec::new();
     for _ in 0..1 + maker.random.below(2) {
         spent.extend(maker.purse.take_spent(&mut maker.random));
@@ -565,11 +576,14 @@ fn spend_twins(maker: &mut Maker, twins: &Twins) {
     maker.judge(&case, Answer::PASSED, "notes at any position");
 }
 
-/// Every wrong length that is worth a name.
+/// Every wrong length that is worth a name. The longest entry that there may be
+/// is for tapes that are long themselves.
 fn wrong_lengths(maker: &mut Maker) {
-    let long = *maker
-        .random
-        .pick(&[MAX_BODY_BYTES, 65_536, 65_536 + CASE_BYTES]);
+    let long = if maker.wanted > LONG_TAPE {
+        MAX_BODY_BYTES
+    } else {
+        *maker.random.pick(&[65_536, 65_536 + CASE_BYTES])
+    };
     for length in [0, 1, CASE_BYTES - 1, CASE_BYTES + 1, long] {
         maker.case_of_length(length);
     }
@@ -600,8 +614,8 @@ fn rows_with(random: &mut Random, given: &[Bytes32], count: usize) -> Vec<Bytes3
     rows
 }
 
-/// A sound ledger with these rows, a random record, and the purse's anchors
-/// among random ones on a roll with room for one more.
+/// A sound ledger with these rows, a random record, the purse's pool, and its
+/// anchors among random ones on a roll with room for one more.
 pub(super) fn ledger_from_elsewhere(
     maker: &mut Maker,
     rows: &[Bytes32],
@@ -624,14 +638,12 @@ pub(super) fn ledger_from_elsewhere(
         roll: roll.concat(),
         spent: rows.len() as u64,
         anchors: anchors as u64,
-        pool: 0,
+        pool: maker.purse.pool,
         tree: Tree::planted(record),
     };
     ledger.table.resize(table, 0);
     ledger.roll.resize(roll_length, 0);
     fill_spare_bytes(random, &mut ledger);
-    let most = most_pool(&ledger);
-    ledger.pool = *random.pick(&[0, 1, -1, most, -most, most - 1, 1 - most]);
     ledger
 }
 
@@ -645,19 +657,20 @@ fn something_long(maker: &mut Maker) {
 
 /// 2,046 nullifiers: there is room for one more case.
 fn big_table_with_room(maker: &mut Maker) {
-    big_table(maker, MAX_SPENT - 2);
+    plant_big_table(maker, MAX_SPENT - 2);
+    maker.bent_case();
+    maker.good_case();
+    maker.look_at_ledger();
+    try_big_table(maker);
 }
 
 /// 2,048 nullifiers: there is no room.
 fn big_table_without_room(maker: &mut Maker) {
-    big_table(maker, MAX_SPENT);
+    plant_big_table(maker, MAX_SPENT);
+    try_big_table(maker);
 }
 
-fn big_table(maker: &mut Maker, spent: usize) {
-    plant_big_table(maker, spent);
-    maker.bent_case();
-    maker.good_case();
-    maker.look_at_ledger();
+fn try_big_table(maker: &mut Maker) {
     maker.good_case();
     maker.bent_case();
     maker.close_block();
@@ -698,7 +711,8 @@ fn full_roll(maker: &mut Maker) {
 }
 
 /// More rows lent than a ledger may use: counts below, at and above the limit,
-/// for judging and for closing.
+/// for judging and for closing. A count below comes to the limit by a case or by
+/// a closing.
 fn beyond_the_limits(maker: &mut Maker) {
     table_beyond_its_limit(maker);
     roll_beyond_its_limit(maker);
@@ -707,46 +721,51 @@ fn beyond_the_limits(maker: &mut Maker) {
 /// The table below its limit has a nullifier in its last row, which is asked
 /// about before the table is full and after.
 fn table_beyond_its_limit(maker: &mut Maker) {
+    let name = "more-table-rows-than-the-limit";
     let spent_case = last_of_the_longest(maker);
-    maker.name("more-table-rows-than-the-limit");
+    maker.name(name);
+    ask_and_close(maker);
+    maker.name(name);
     ask_and_close(maker);
     spent_in_a_full_table(maker, &spent_case);
-    for spent in [MAX_SPENT, MAX_SPENT + ROWS_BEYOND] {
-        maker.name("more-table-rows-than-the-limit");
-        maker.purse = Purse::from_elsewhere(&mut maker.random, &[Amount(5), Amount(6)]);
-        let rows = rows_with(&mut maker.random, &[], spent);
-        let ledger = ledger_from_elsewhere(maker, &rows, MAX_TABLE_BYTES, 3);
-        maker.plant(
-            &ledger,
-            &format!("{spent} nullifiers, more rows lent than the limit"),
-        );
-        ask_and_close(maker);
-    }
+    maker.name(name);
+    let spent = MAX_SPENT + ROWS_BEYOND;
+    maker.purse = Purse::from_elsewhere(&mut maker.random, &[Amount(5), Amount(6)]);
+    let rows = rows_with(&mut maker.random, &[], spent);
+    let ledger = ledger_from_elsewhere(maker, &rows, MAX_TABLE_BYTES, 3);
+    let purpose = format!("{spent} nullifiers, more rows lent than the limit");
+    maker.plant(&ledger, &purpose);
+    ask_and_close(maker);
 }
 
 fn roll_beyond_its_limit(maker: &mut Maker) {
-    for anchors in [MAX_ANCHORS - 1, MAX_ANCHORS, MAX_ANCHORS + ROWS_BEYOND] {
-        maker.name("more-roll-rows-than-the-limit");
-        maker.purse = Purse::from_elsewhere(&mut maker.random, &[Amount(5), Amount(6)]);
-        let rows = rows_with(&mut maker.random, &[], 4);
-        let table = ragged_length(&mut maker.random, 8);
-        let mut ledger = ledger_from_elsewhere(maker, &rows, table, anchors.min(MAX_ANCHORS));
-        ledger.anchors = anchors as u64;
-        ledger.roll.resize(MAX_ROLL_BYTES, 1);
-        maker.plant(
-            &ledger,
-            &format!("{anchors} anchors, more rows lent than the limit"),
-        );
-        ask_and_close(maker);
-    }
+    let name = "more-roll-rows-than-the-limit";
+    maker.name(name);
+    plant_long_roll(maker, MAX_ANCHORS - 1);
+    ask_and_close(maker);
+    maker.name(name);
+    ask_and_close(maker);
+    maker.name(name);
+    plant_long_roll(maker, MAX_ANCHORS + ROWS_BEYOND);
+    ask_and_close(maker);
 }
 
-/// A good case, a closing, and both once more.
+/// A ledger of this many anchors, more roll rows lent than the limit.
+fn plant_long_roll(maker: &mut Maker, anchors: usize) {
+    maker.purse = Purse::from_elsewhere(&mut maker.random, &[Amount(5), Amount(6)]);
+    let rows = rows_with(&mut maker.random, &[], 4);
+    let table = ragged_length(&mut maker.random, 8);
+    let mut ledger = ledger_from_elsewhere(maker, &rows, table, anchors.min(MAX_ANCHORS));
+    ledger.anchors = anchors as u64;
+    ledger.roll.resize(MAX_ROLL_BYTES, 1);
+    let purpose = format!("{anchors} anchors, more rows lent than the limit");
+    maker.plant(&ledger, &purpose);
+}
+
+/// A good case and a closing.
 fn ask_and_close(maker: &mut Maker) {
-    for _ in 0..2 {
-        maker.good_case();
-        maker.close_block();
-    }
+    maker.good_case();
+    maker.close_block();
     maker.look_at_memory("memory beyond the limits");
 }
 
@@ -769,7 +788,7 @@ const DEEP_COUNTS: [u32; 11] = [
 fn deep_records(maker: &mut Maker) {
     let mut counts = DEEP_COUNTS;
     maker.random.shuffle(&mut counts[2..]);
-    for count in &counts[..5] {
+    for count in &counts[..4] {
         let ledger = deep_ledger(&mut maker.random, *count);
         maker.plant(&ledger, &format!("record of {count} leaves"));
         maker.look_at_ledger();
@@ -793,8 +812,9 @@ fn deep_ledger(random: &mut Random, count: u32) -> Ledger {
 }
 
 /// Two cases in one order and then, from the same ledger, in the other: first
-/// two that share a nullifier, then two that do not. The order leaves number and
-/// place as they are; rows may be shifted by the case before.
+/// two that share a nullifier, then two that do not and leave the pool in its
+/// bounds. The order leaves number and place as they are; rows may be shifted by
+/// the case before.
 fn order(maker: &mut Maker) {
     let ledger = small_ledger(maker);
     let purse = maker.purse.clone();
@@ -829,15 +849,28 @@ fn both_orders(
     })
 }
 
-/// Two files without a common nullifier, good or bent.
+/// Two files without a common nullifier, good or bent, that leave the pool in
+/// its bounds.
 fn unrelated_cases(maker: &mut Maker) -> (Vec<u8>, Vec<u8>) {
-    let one = maker.purse.good_case(&mut maker.random);
-    let mut rest = maker.purse.clone();
-    one.old.iter().for_each(|note| rest.mark_spent(note));
-    let other = rest.good_case(&mut maker.random);
-    let one = sometimes_bent(maker, one);
-    let other = sometimes_bent(maker, other);
-    (one.to_bytes(), other.to_bytes())
+    loop {
+        let one = maker.purse.good_case(&mut maker.random);
+        let mut rest = maker.purse.clone();
+        one.old.iter().for_each(|note| rest.mark_spent(note));
+        let other = rest.good_case(&mut maker.random);
+        let one = sometimes_bent(maker, one);
+        let other = sometimes_bent(maker, other);
+        if leave_the_pool_in_its_bounds(maker.purse.pool, &one, &other) {
+            return (one.to_bytes(), other.to_bytes());
+        }
+    }
+}
+
+/// Whether the pool is in its bounds with what either case asks for, and with
+/// what both do, be they accepted or not.
+fn leave_the_pool_in_its_bounds(pool: u64, one: &Case, other: &Case) -> bool {
+    let [one, other] = [one, other].map(Case::asked_of_pool);
+    let asked = [one, other, one + other];
+    asked.iter().all(|asked| is_pool(i128::from(pool) + asked))
 }
 
 fn sometimes_bent(maker: &mut Maker, case: Case) -> Case {

@@ -1,8 +1,7 @@
 //! Ledgers to plant: each kind of damage, and its near misses.
 
 use crate::bytes::Bytes32;
-use crate::case::MAX_MONEY;
-use crate::ledger::{Ledger, ROW_BYTES};
+use crate::ledger::{Ledger, MAX_POOL, ROW_BYTES};
 use crate::random::Random;
 use crate::tree::{Record, Tree, DEPTH};
 
@@ -42,11 +41,9 @@ pub const TAMPERS: &[Tamper] = &[
     near_miss("anchors repeated", repeat_anchors),
     near_miss("no nullifiers", |_, ledger| {
         set_both_counts(ledger, 0);
-        ledger.pool = 0;
     }),
     near_miss("two nullifiers fewer", |_, ledger| {
         set_both_counts(ledger, ledger.spent - 2);
-        ledger.pool = 0;
     }),
     near_miss("table cut to its used rows", |random, ledger| {
         cut(random, &mut ledger.table, ledger.spent);
@@ -67,41 +64,34 @@ pub const TAMPERS: &[Tamper] = &[
     near_miss("rows rise across the sign bit", |_, ledger| {
         first_bytes(ledger, [0x7f, 0x80]);
     }),
-    near_miss("pool at its most", |_, ledger| {
-        ledger.pool = most_pool(ledger);
-    }),
-    near_miss("pool at its least", |_, ledger| {
-        ledger.pool = -most_pool(ledger);
-    }),
-    damage("pool one above its most", |_, ledger| {
-        ledger.pool = most_pool(ledger) + 1;
-    }),
-    damage("pool one below its least", |_, ledger| {
-        ledger.pool = -most_pool(ledger) - 1;
-    }),
-    damage("pool at the least 64-bit number", |_, ledger| {
-        ledger.pool = i64::MIN;
-    }),
-    damage("pool one above the least 64-bit number", |_, ledger| {
-        ledger.pool = i64::MIN + 1;
-    }),
-    damage("pool at the greatest 64-bit number", |_, ledger| {
-        ledger.pool = i64::MAX;
-    }),
-    damage("pool of one without nullifiers", |random, ledger| {
+    near_miss("pool of nothing", |_, ledger| ledger.pool = 0),
+    near_miss("pool of all money", |_, ledger| ledger.pool = MAX_POOL),
+    near_miss("pool of all money without nullifiers", |_, ledger| {
         set_both_counts(ledger, 0);
-        ledger.pool = *random.pick(&[1, -1]);
+        ledger.pool = MAX_POOL;
     }),
+    damage("pool one above all money", |_, ledger| {
+        ledger.pool = MAX_POOL + 1;
+    }),
+    damage("pool of all money for each case", |_, ledger| {
+        ledger.pool = ledger.spent / 2 * MAX_POOL;
+    }),
+    damage("pool of minus one as a signed number", |_, ledger| {
+        ledger.pool = u64::MAX;
+    }),
+    damage("pool of minus all money as a signed number", |_, ledger| {
+        ledger.pool = MAX_POOL.wrapping_neg();
+    }),
+    damage("pool of 2^63 - 1", |_, ledger| ledger.pool = (1 << 63) - 1),
+    damage("pool of 2^63", |_, ledger| ledger.pool = 1 << 63),
     damage("one nullifier more", |_, ledger| {
         set_both_counts(ledger, ledger.spent + 1);
     }),
     damage("one nullifier fewer", |_, ledger| {
         set_both_counts(ledger, ledger.spent - 1);
-        ledger.pool = 0;
     }),
     damage("one nullifier, one leaf", |_, ledger| {
         set_both_counts(ledger, 1);
-        ledger.pool = 0;
     }),
     damage("table cut by one row", |random, ledger| {
         cut(random, &mut ledger.table, ledger.spent - 1);
@@ -176,11 +166,6 @@ pub const TAMPERS: &[Tamper] = &[
     damage("2^32 anchors more", |_, ledger| ledger.anchors += 1 << 32),
     damage("2^63 anchors", |_, ledger| ledger.anchors = 1 << 63),
 ];
-
-/// The furthest that the pool may be from zero.
-pub fn most_pool(ledger: &Ledger) -> i64 {
-    (ledger.spent / 2 * MAX_MONEY.0) as i64
-}
 
 fn set_record(ledger: &mut Ledger, record: Record) {
     ledger.tree = Tree::planted(record);

@@ -4,12 +4,15 @@
 #![allow(dead_code)]
 
 use second::answer::Answer;
-use second::case::{Amount, Case, MAX_MONEY};
+use second::bytes::Bytes32;
+use second::case::{Amount, Case, OldNote, Position, MAX_MONEY};
 use second::judge::judge;
 use second::ledger::{Ledger, ROW_BYTES};
 use second::maker::bends::{Bench, Bend};
 use second::maker::purse::Purse;
 use second::random::Random;
+use second::tree::{path_of_leaf, root_of_leaves};
+use second::wallet::{write_case, Note, Plan};
 
 /// A ledger in use.
 #[derive(Clone)]
@@ -54,6 +57,7 @@ impl Shift {
         let values = [u64::MAX, u64::MAX, MAX_MONEY.0 + 1, 7_000, 3_000, 1].map(Amount);
         let purse = Purse::from_elsewhere(&mut random, &values);
         let mut ledger = Ledger::zeroed(vec![0; 30 * ROW_BYTES], Vec::new());
+        ledger.pool = purse.pool;
         for anchor in purse.anchors() {
             ledger.roll.extend(anchor.root);
             ledger.anchors += 1;
@@ -87,10 +91,64 @@ impl Shift {
     /// A good case bent, if it can be.
     pub fn bent_case(&mut self, bend: &Bend) -> Option<Case> {
         let case = self.good_case();
+        self.bend(bend, case)
+    }
+
+    /// A case bent, if it can be.
+    pub fn bend(&mut self, bend: &Bend, case: Case) -> Option<Case> {
         let mut bench = Bench {
             random: &mut self.random,
             purse: &self.purse,
         };
         (bend.apply)(&mut bench, case)
     }
+}
+
+/// Two notes of these values that are the only leaves of a tree, and its root.
+pub fn leaves_of(random: &mut Random, values: [u64; 2]) -> ([OldNote; 2], Bytes32) {
+    let notes = values.map(|value| Note::random(random, Amount(value)));
+    let leaves = [notes[0].commitment(), notes[1].commitment()];
+    let old = [0, 1].map(|place| {
+        let position = Position(place as u32);
+        notes[place].at(position, path_of_leaf(&leaves, position))
+    });
+    (old, root_of_leaves(&leaves))
+}
+
+/// A right case over these notes and their root that puts in and takes out so
+/// much; its first new note has what is left.
+pub fn case_over(
+    random: &mut Random,
+    (old, anchor): ([OldNote; 2], Bytes32),
+    vpub_old: u64,
+    vpub_new: u64,
+) -> Case {
+    let left = vpub_old + old[0].value.0 + old[1].value.0 - vpub_new;
+    let plan = Plan {
+        vpub_old: Amount(vpub_old),
+        vpub_new: Amount(vpub_new),
+        anchor,
+        old,
+        new: [left, 0].map(|value| (random.bytes(), Amount(value))),
+    };
+    write_case(random, plan)
+}
+
+/// A right case that changes the pool by this: it puts in, or takes out of a
+/// note of as much.
+pub fn case_asking(random: &mut Random, change: i64) -> Case {
+    let amount = change.unsigned_abs();
+    let (vpub_old, vpub_new) = if change < 0 { (0, amount) } else { (amount, 0) };
+    let notes = leaves_of(random, [vpub_new, 0]);
+    case_over(random, notes, vpub_old, vpub_new)
+}
+
+/// A ledger of no nullifiers with this in its pool, room for these cases, and
+/// their anchors on its roll.
+pub fn ledger_for(pool: u64, cases: &[&Case]) -> Ledger {
+    let roll: Vec<u8> = cases.iter().flat_map(|case| case.anchor).collect();
+    let mut ledger = Ledger::zeroed(vec![0xa5; (2 * cases.len() + 2) * ROW_BYTES], roll);
+    ledger.anchors = cases.len() as u64;
+    ledger.pool = pool;
+    ledger
 }

@@ -298,7 +298,14 @@ def samples():
         "case 0 0",  # all the money there will ever be
         "case 8 2",  # its second nullifier is that of the accepted case
         "case 10 1",  # its first old note has a value of 5, and no path from it to the empty root
-        "case 16 2",  # a bit of its second commitment is changed
+        "case 16 2",  # a bit of its second commitment is changed; nor could the pool take its 1, but that is asked last
+        f"ledger spent 2 leaves 2 pool {MAX_MONEY}",
+    ]
+
+    yield "full-pool", bag(seal(0, 100.0), most, case("one more", vpub_old=1, new=(1, 0))), [
+        "seal 0 0",
+        "case 0 0",  # all money: the pool is as full as it may be
+        "case 17 0",  # one more
         f"ledger spent 2 leaves 2 pool {MAX_MONEY}",
     ]
 
@@ -409,7 +416,7 @@ def seals():
 
 
 def refused_cases():
-    """For each number and place that a fresh ledger can give: a case that is right but for that."""
+    """For each number and place that a fresh ledger can give to its first case: one that is right but for that."""
     def right(label, **more):
         return case(f"refused {label}", vpub_old=9, new=(4, 5), **more)
 
@@ -462,6 +469,53 @@ def refusals():
         yield f"refused-8-{place}-later", bag(OPEN, before, refused, behind), [
             "seal 0 0", "case 0 0", f"case 8 {place}", "case 0 0", "ledger spent 4 leaves 4 pool 3",
         ]
+    # The pool has room for 2 more, which is just what the case behind puts in.
+    full, above = puts("nearly full", MAX_MONEY - 2), puts("above", 3)
+    yield "refused-17-0-later", bag(OPEN, full, above, behind), [
+        "seal 0 0", "case 0 0", "case 17 0", "case 0 0", f"ledger spent 4 leaves 4 pool {MAX_MONEY}",
+    ]
+
+
+def answered(*answers, spent, pool):
+    """The lines of a bag whose seal passes and whose cases are answered so."""
+    cases = [f"case {answer}" for answer in answers]
+    return ["seal 0 0", *cases, f"ledger spent {spent} leaves {spent} pool {pool}"]
+
+
+def puts(label, amount, **more):
+    """A case that puts an amount into the pool."""
+    return case(label, vpub_old=amount, new=(amount, 0), **more)
+
+
+def pools():
+    """Bags around the pool's upper bound.
+
+    A fresh pool is empty, so that no first case is refused with 17: it may put in all money at most, and it has
+    no note to take from. So nothing here takes out, either; the lower bound is the tape's.
+    """
+    all_money = puts("all money", MAX_MONEY)
+    one, two, nothing = puts("a first 1", 1), puts("a later 2", 2), puts("a later 0", 0)
+    wrong = with_byte_changed(puts("a wrong 1", 1), 112)
+    yield "pool-all-money-first", bag(OPEN, all_money), answered("0 0", spent=2, pool=MAX_MONEY)
+    # What is left of all money, and one more than that, behind a case that put 1 in.
+    rest = puts("the rest", MAX_MONEY - 1)
+    yield "pool-all-money-later", bag(OPEN, one, rest), answered("0 0", "0 0", spent=4, pool=MAX_MONEY)
+    yield "pool-one-above-later", bag(OPEN, one, all_money), answered("0 0", "17 0", spent=2, pool=1)
+    # One more than all money as a first case is too much for a public value, before the pool is asked.
+    yield "pool-one-above-first", bag(OPEN, puts("all money and 1", MAX_MONEY + 1)), answered("5 1", spent=0, pool=0)
+    # What was refused is not in the pool: there is room for the rest, and then for nothing.
+    all_but_3, last = puts("all but 3", MAX_MONEY - 3), puts("a last 1", 1)
+    yield "pool-filled-behind-17", bag(OPEN, one, all_money, all_but_3, two, last), answered(
+        "0 0", "17 0", "0 0", "0 0", "17 0", spent=6, pool=MAX_MONEY,
+    )
+    # To a full pool as much again is too much, and a case that puts nothing in is not.
+    again = puts("all money again", MAX_MONEY)
+    yield "pool-full-takes-nothing", bag(OPEN, all_money, again, nothing), answered(
+        "0 0", "17 0", "0 0", spent=4, pool=MAX_MONEY,
+    )
+    # 17 is asked last: a wrong commitment comes before it, and so does a spent nullifier.
+    yield "pool-16-before-17", bag(OPEN, all_money, wrong), answered("0 0", "16 1", spent=2, pool=MAX_MONEY)
+    yield "pool-8-before-17", bag(OPEN, all_money, all_money), answered("0 0", "8 1", spent=2, pool=MAX_MONEY)
 
 
 def pairs():
@@ -475,18 +529,14 @@ def pairs():
     a = case("pair A", vpub_old=100, new=(60, 40), old=[first, second])
     b = case("pair B", vpub_old=7, new=(0, 7))
 
-    def lines(*answers, spent, pool):
-        cases = [f"case {answer}" for answer in answers]
-        return ["seal 0 0", *cases, f"ledger spent {spent} leaves {spent} pool {pool}"]
-
     def judged(*cases):
         return bag(OPEN, *cases)
 
-    yield "a-alone", judged(a), lines("0 0", spent=2, pool=100)
-    yield "b-alone", judged(b), lines("0 0", spent=2, pool=7)
+    yield "a-alone", judged(a), answered("0 0", spent=2, pool=100)
+    yield "b-alone", judged(b), answered("0 0", spent=2, pool=7)
     # No nullifier in common: both orders pass and end alike.
-    yield "a-then-b", judged(a, b), lines("0 0", "0 0", spent=4, pool=107)
-    yield "b-then-a", judged(b, a), lines("0 0", "0 0", spent=4, pool=107)
+    yield "a-then-b", judged(a, b), answered("0 0", "0 0", spent=4, pool=107)
+    yield "b-then-a", judged(b, a), answered("0 0", "0 0", spent=4, pool=107)
 
     # Each of these five would pass alone, puts 5 in and has old notes in common with A. Beside it: what
     # it is answered after A, and what A is answered after it. A place is that of the nullifier in the
@@ -502,9 +552,9 @@ def pairs():
         ("first-is-second", sharing("first is second", one=second), "8 1", "8 2"),
         ("both-exchanged", sharing("both, exchanged", one=second, two=first), "8 1", "8 1"),
     ]:
-        yield f"{name}-alone", judged(shares), lines("0 0", spent=2, pool=5)
-        yield f"{name}-after-a", judged(a, shares), lines("0 0", after_a, spent=2, pool=100)
-        yield f"a-after-{name}", judged(shares, a), lines("0 0", a_after, spent=2, pool=5)
+        yield f"{name}-alone", judged(shares), answered("0 0", spent=2, pool=5)
+        yield f"{name}-after-a", judged(a, shares), answered("0 0", after_a, spent=2, pool=100)
+        yield f"a-after-{name}", judged(shares, a), answered("0 0", a_after, spent=2, pool=5)
 
     # One is refused whether it is alone, first or last, and A passes: a commitment is wrong, the anchor
     # is not on the roll, and a file of the wrong length, which has no nullifiers though its bytes are A's.
@@ -513,28 +563,50 @@ def pairs():
         ("anchored-elsewhere", case("pair elsewhere", anchor=secret("another root")), "6 0"),
         ("a-cut-short", a[:-1], "1 0"),
     ]:
-        yield f"{name}-alone", judged(refused), lines(answer, spent=0, pool=0)
-        yield f"{name}-then-a", judged(refused, a), lines(answer, "0 0", spent=2, pool=100)
-        yield f"a-then-{name}", judged(a, refused), lines("0 0", answer, spent=2, pool=100)
+        yield f"{name}-alone", judged(refused), answered(answer, spent=0, pool=0)
+        yield f"{name}-then-a", judged(refused, a), answered(answer, "0 0", spent=2, pool=100)
+        yield f"a-then-{name}", judged(a, refused), answered("0 0", answer, spent=2, pool=100)
 
     # Neither half of the demand speaks of this pair: they share a nullifier, and one would not pass alone.
     # Here the order does show, since 8 is asked before 16.
     faulty = with_byte_changed(sharing("shares and claims wrong", one=first), 112)
-    yield "shares-and-claims-wrong-alone", judged(faulty), lines("16 1", spent=0, pool=0)
-    yield "shares-and-claims-wrong-then-a", judged(faulty, a), lines("16 1", "0 0", spent=2, pool=100)
-    yield "a-then-shares-and-claims-wrong", judged(a, faulty), lines("0 0", "8 1", spent=2, pool=100)
+    yield "shares-and-claims-wrong-alone", judged(faulty), answered("16 1", spent=0, pool=0)
+    yield "shares-and-claims-wrong-then-a", judged(faulty, a), answered("16 1", "0 0", spent=2, pool=100)
+    yield "a-then-shares-and-claims-wrong", judged(a, faulty), answered("0 0", "8 1", spent=2, pool=100)
 
     # Refused for its second nullifier, a case leaves nothing of its first one: a third case may spend it.
     left = old_note("left unspent")
     spoilt = sharing("spoilt", one=left, two=second)
     again = sharing("spends what was left", one=left)
-    yield "refused-leaves-its-first-unspent", judged(a, spoilt, again), lines("0 0", "8 2", "0 0", spent=4, pool=105)
+    yield "refused-leaves-its-first-unspent", judged(a, spoilt, again), answered("0 0", "8 2", "0 0", spent=4, pool=105)
 
     # What is carried and never checked moves no answer and no ledger.
     carried = with_carried_changed(a)
-    yield "a-with-carried-changed", judged(carried), lines("0 0", spent=2, pool=100)
-    yield "a-then-a-with-carried-changed", judged(a, carried), lines("0 0", "8 1", spent=2, pool=100)
-    yield "a-with-carried-changed-then-b", judged(carried, b), lines("0 0", "0 0", spent=4, pool=107)
+    yield "a-with-carried-changed", judged(carried), answered("0 0", spent=2, pool=100)
+    yield "a-then-a-with-carried-changed", judged(a, carried), answered("0 0", "8 1", spent=2, pool=100)
+    yield "a-with-carried-changed-then-b", judged(carried, b), answered("0 0", "0 0", spent=4, pool=107)
+
+
+def pool_pairs():
+    """Pairs that meet at the pool's upper bound, without a nullifier in common and with one."""
+    c, d, e = puts("pair C", MAX_MONEY - 10), puts("pair D", 10), puts("pair E", 11)
+    yield "c-alone", bag(OPEN, c), answered("0 0", spent=2, pool=MAX_MONEY - 10)
+    yield "d-alone", bag(OPEN, d), answered("0 0", spent=2, pool=10)
+    yield "e-alone", bag(OPEN, e), answered("0 0", spent=2, pool=11)
+    # C and D fill the pool: both pass in either order.
+    yield "c-then-d", bag(OPEN, c, d), answered("0 0", "0 0", spent=4, pool=MAX_MONEY)
+    yield "d-then-c", bag(OPEN, d, c), answered("0 0", "0 0", spent=4, pool=MAX_MONEY)
+    # C and E would put in one more than it takes. The demand does not speak of them: whichever is later is refused.
+    yield "c-then-e", bag(OPEN, c, e), answered("0 0", "17 0", spent=2, pool=MAX_MONEY - 10)
+    yield "e-then-c", bag(OPEN, e, c), answered("0 0", "17 0", spent=2, pool=11)
+    # E's bytes but for the last: a file of the wrong length asks for nothing.
+    yield "c-then-e-cut-short", bag(OPEN, c, e[:-1]), answered("0 0", "1 0", spent=2, pool=MAX_MONEY - 10)
+    yield "e-cut-short-then-c", bag(OPEN, e[:-1], c), answered("1 0", "0 0", spent=2, pool=MAX_MONEY - 10)
+    # The same amounts as C's and E's with a nullifier in common, which is asked before the pool.
+    shares = puts("shares with C", 11, old=[old_note("shares with C own"), old_note("pair C old 1")])
+    yield "shares-with-c-alone", bag(OPEN, shares), answered("0 0", spent=2, pool=11)
+    yield "c-then-shares-with-c", bag(OPEN, c, shares), answered("0 0", "8 2", spent=2, pool=MAX_MONEY - 10)
+    yield "shares-with-c-then-c", bag(OPEN, shares, c), answered("0 0", "8 1", spent=2, pool=11)
 
 
 NAMED = 2 ** 31  # a length from here on is that of a name
@@ -542,7 +614,7 @@ NAMED = 2 ** 31  # a length from here on is that of a name
 
 def tray():
     """The bytes of the tray and its lines, a name before each bag. It ends inside a bag, which ends the run."""
-    runs = [*samples(), *lengths(), *layouts(), *seals(), *refusals(), *pairs()]
+    runs = [*samples(), *lengths(), *layouts(), *seals(), *refusals(), *pools(), *pairs(), *pool_pairs()]
     assert len({name for name, _, _ in runs}) == len(runs)
     stored, printed = b"", []
     for name, data, lines in runs:

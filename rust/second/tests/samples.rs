@@ -70,7 +70,7 @@ fn judge_tray(bytes: &[u8]) -> Vec<String> {
 #[test]
 fn each_sample_prints_its_lines() {
     let bags = sample_bags();
-    assert!(bags.len() >= 5, "only {} samples", bags.len());
+    assert!(bags.len() >= 6, "only {} samples", bags.len());
     for path in bags {
         let bag = fs::read(&path).expect("a bag");
         let expected = fs::read_to_string(path.with_extension("txt")).expect("its lines");

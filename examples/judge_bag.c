@@ -26,7 +26,7 @@ static void print_cases_and_ledger(void)
     uint32_t i;
     for (i = 0; i < snaldrek_report_cases(report); i++)
         print_answer("case", snaldrek_report_answer(report, i));
-    printf("ledger spent %" PRIu64 " leaves %" PRIu32 " pool %" PRId64 "\n", snaldrek_ledger_spent(ledger),
+    printf("ledger spent %" PRIu64 " leaves %" PRIu32 " pool %" PRIu64 "\n", snaldrek_ledger_spent(ledger),
            snaldrek_ledger_leaves(ledger), snaldrek_ledger_pool(ledger));
 }
 

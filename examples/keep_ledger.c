@@ -146,7 +146,7 @@ static int judge_cases(int file, const char *name)
         if (fflush(stdout) != 0)
             return not_printed();
     }
-    printf("ledger spent %" PRIu64 " leaves %" PRIu32 " pool %" PRId64 "\n", snaldrek_ledger_spent(slot + LEDGER),
+    printf("ledger spent %" PRIu64 " leaves %" PRIu32 " pool %" PRIu64 "\n", snaldrek_ledger_spent(slot + LEDGER),
            snaldrek_ledger_leaves(slot + LEDGER), snaldrek_ledger_pool(slot + LEDGER));
     return fflush(stdout) != 0 ? not_printed() : 0;
 }

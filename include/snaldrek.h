@@ -77,6 +77,12 @@ uint32_t snaldrek_version(void);
 #define SNALDREK_TABLE_MAX_BYTES (SNALDREK_TABLE_MAX_ROWS * SNALDREK_ROW_BYTES)
 #define SNALDREK_ROLL_MAX_BYTES (SNALDREK_ROLL_MAX_ROWS * SNALDREK_ROW_BYTES)
 
+/* ---- Money, in zatoshi ---- */
+
+/* All the money there will ever be: no public value may be above it (5), and no pool either (17, and 2 where
+   a ledger says that it is). */
+#define SNALDREK_MONEY_MAX_ZATOSHI UINT64_C(2100000000000000)
+
 /* ---- Answers ---- */
 
 /* Every number that a call can answer with. The place is 0 where nothing else is said. */
@@ -101,6 +107,7 @@ enum snaldrek_number {
     SNALDREK_TAG_WRONG = 14,            /* place 1 or 2 */
     SNALDREK_RHO_WRONG = 15,            /* place 1 or 2: which new note */
     SNALDREK_COMMITMENT_WRONG = 16,     /* place 1 or 2 */
+    SNALDREK_POOL_OUT_OF_BOUNDS = 17,   /* with this case it would be below zero or above all money */
 
     /* of a bag and its seal */
     SNALDREK_LAYOUT_BROKEN = 20,        /* of the bag, or of the seal's own bytes */
@@ -144,7 +151,7 @@ uint32_t snaldrek_open(uint8_t *ledger, size_t ledger_len, uint8_t *roll, size_t
 
 /* Judges one case. Accepted, its nullifiers are in the table, its commitments in the tree and its
    public values in the pool.
-   51 1: the ledger's length. Then 1 to 16, the first that applies; with 8, the spent nullifier stands at
+   51 1: the ledger's length. Then 1 to 17, the first that applies; with 8, the spent nullifier stands at
    table + SNALDREK_ROW_BYTES * SNALDREK_ROW(answer). */
 uint32_t snaldrek_judge(const uint8_t *file, size_t file_len, uint8_t *ledger, size_t ledger_len,
                         uint8_t *table, size_t table_len, const uint8_t *roll, size_t roll_len);
@@ -205,18 +212,15 @@ static inline uint64_t snaldrek_read_64(const uint8_t *bytes)
     return (uint64_t)snaldrek_read_32(bytes) | (uint64_t)snaldrek_read_32(bytes + 4) << 32;
 }
 
-/* A ledger: nullifier count in 8 bytes, anchor count in 8, pool in 8 (two's complement), leaf count in
-   4, then the tree record's 30 nodes. */
+/* A ledger: nullifier count in 8 bytes, anchor count in 8, pool in 8, leaf count in 4, then the tree
+   record's 30 nodes. */
 static inline uint64_t snaldrek_ledger_spent(const uint8_t *ledger) { return snaldrek_read_64(ledger); }
 static inline uint64_t snaldrek_ledger_anchors(const uint8_t *ledger) { return snaldrek_read_64(ledger + 8); }
 static inline uint32_t snaldrek_ledger_leaves(const uint8_t *ledger) { return snaldrek_read_32(ledger + 24); }
 
-/* What has entered the pool less what has left it. It may be below zero. */
-static inline int64_t snaldrek_ledger_pool(const uint8_t *ledger)
-{
-    uint64_t bits = snaldrek_read_64(ledger + 16);
-    return bits <= (uint64_t)INT64_MAX ? (int64_t)bits : -1 - (int64_t)(UINT64_MAX - bits);
-}
+/* What has entered the pool less what has left it, in zatoshi. It is never below zero, and above
+   SNALDREK_MONEY_MAX_ZATOSHI only where the ledger is damaged. */
+static inline uint64_t snaldrek_ledger_pool(const uint8_t *ledger) { return snaldrek_read_64(ledger + 16); }
 
 /* A report: the number of cases in 4 bytes, then seven answers of 4 bytes, SNALDREK_NOT_GIVEN past the
    last case. */

@@ -29,7 +29,7 @@ static void print_answers(uint32_t of_bag)
         if (SNALDREK_NUMBER(answer) == SNALDREK_ALREADY_SPENT)
             printf("row %u\n", SNALDREK_ROW(answer));
     }
-    printf("ledger spent %" PRIu64 " leaves %" PRIu32 " pool %" PRId64 "\n", snaldrek_ledger_spent(ledger),
+    printf("ledger spent %" PRIu64 " leaves %" PRIu32 " pool %" PRIu64 "\n", snaldrek_ledger_spent(ledger),
            snaldrek_ledger_leaves(ledger), snaldrek_ledger_pool(ledger));
 }
 

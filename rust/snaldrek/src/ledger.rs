@@ -20,6 +20,9 @@ pub const ROW_BYTES: usize = 32;
 pub const MAX_SPENT: usize = 2_048;
 /// The most anchors that a ledger has room for.
 pub const MAX_ANCHORS: usize = 1_024;
+/// All the money there will ever be, in zatoshi: the highest public value, and
+/// the most that a pool can hold.
+pub const MAX_MONEY: u64 = 2_100_000_000_000_000;
 
 const REPORT_BYTES: usize = 32;
 
@@ -112,9 +115,10 @@ impl Ledger {
         u64::from_le_bytes(self.part(8))
     }
 
-    /// What has entered the pool less what has left it.
-    pub fn pool(&self) -> i64 {
-        i64::from_le_bytes(self.part(16))
+    /// What has entered the pool less what has left it, in zatoshi. It is above
+    /// [`MAX_MONEY`] only where the ledger is damaged.
+    pub fn pool(&self) -> u64 {
+        u64::from_le_bytes(self.part(16))
     }
 
     /// Leaves of the tree.

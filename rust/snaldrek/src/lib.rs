@@ -39,7 +39,7 @@ pub use books::Tally;
 pub use books::{DayAnswer, DayList, DayRow};
 #[cfg(feature = "alloc")]
 pub use ledger::{
-    Ledger, CASE_BYTES, LEDGER_BYTES, MAX_ANCHORS, MAX_BAG_BYTES, MAX_SPENT, ROW_BYTES,
+    Ledger, CASE_BYTES, LEDGER_BYTES, MAX_ANCHORS, MAX_BAG_BYTES, MAX_MONEY, MAX_SPENT, ROW_BYTES,
 };
 pub use refusal::{Answer, Bound, Buffer, Pair, Refusal, TableRow, Unnamed};
 pub use seal::{judge_seal, Calibration, SEAL_BYTES};

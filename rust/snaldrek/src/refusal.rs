@@ -97,6 +97,8 @@ pub enum Refusal {
     RhoWrong(Pair),
     /// 16.
     CommitmentWrong(Pair),
+    /// 17: with this case it would be below zero or above all money.
+    PoolOutOfBounds,
     /// 20.
     LayoutBroken,
     /// 21.
@@ -186,6 +188,7 @@ impl Refusal {
             Refusal::TagWrong(_) => 14,
             Refusal::RhoWrong(_) => 15,
             Refusal::CommitmentWrong(_) => 16,
+            Refusal::PoolOutOfBounds => 17,
             Refusal::LayoutBroken => 20,
             Refusal::GateBroken => 21,
             Refusal::PullNotFinite => 22,
@@ -246,6 +249,7 @@ fn without_place(number: u8) -> Option<Refusal> {
         6 => Refusal::AnchorUnknown,
         7 => Refusal::NullifiersEqual,
         11 => Refusal::NotBalanced,
+        17 => Refusal::PoolOutOfBounds,
         20 => Refusal::LayoutBroken,
         21 => Refusal::GateBroken,
         22 => Refusal::PullNotFinite,
@@ -323,7 +327,7 @@ impl Buffer {
 /// Number, place and words of each refusal, as docs/REFUSALS.md has them. Those
 /// of 1 and 3 also say what they mean where no case was judged.
 #[rustfmt::skip]
-const WORDS: [(u8, u8, &str); 40] = [
+const WORDS: [(u8, u8, &str); 41] = [
     (1, 0, "the case is not 4,210 bytes long (opening: the roll has no row)"),
     (2, 0, "the ledger is damaged"),
     (3, 0, "fewer than two nullifier rows are free (closing: no roll row is)"),
@@ -350,6 +354,7 @@ const WORDS: [(u8, u8, &str); 40] = [
     (15, 2, "new note 2's rho is wrong"),
     (16, 1, "the first commitment is not that of new note 1"),
     (16, 2, "the second commitment is not that of new note 2"),
+    (17, 0, "with this case the pool would be below zero or above all money"),
     (20, 0, "the bag's layout is broken"),
     (21, 0, "a limit of the gate is no finite number, or low is above high"),
     (22, 0, "the pull is no finite number"),

@@ -187,7 +187,7 @@ fn noise_is_refused_alike() {
         random.fill(&mut theirs.roll);
         theirs.spent = random.u64() >> random.below(64);
         theirs.anchors = random.u64() >> random.below(64);
-        theirs.pool = random.u64() as i64;
+        theirs.pool = random.u64() >> random.below(64);
         let mut ours = same_ledger(&theirs);
         let mut file = vec![0; *random.pick(&[0, 4_209, 4_210, 4_211])];
         random.fill(&mut file);

@@ -38,7 +38,7 @@ fn debugging_prints_no_memory() {
 #[test]
 fn each_row_has_its_variant_and_words() {
     let rows = rows();
-    assert_eq!(rows.len(), 40);
+    assert_eq!(rows.len(), 41);
     for (number, place, words) in rows {
         let code = number + 256 * place;
         let refusal = Refusal::from_code(code).expect("a refusal");

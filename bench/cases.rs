@@ -9,7 +9,7 @@ use second::answer::Answer;
 use second::bytes::Bytes32;
 use second::case::{Amount, Case};
 use second::judge::{first_refusal, RULES};
-use second::ledger::Ledger;
+use second::ledger::{Ledger, MAX_POOL};
 use second::maker::bends::{Bench, Bend, BENDS};
 use second::maker::purse::Purse;
 use second::random::Random;
@@ -17,6 +17,8 @@ use second::tape::{entry, plant_body};
 use second::tree::{Record, Tree};
 
 const ROLL: usize = 16;
+// In the pool: room for what a case puts in, and enough for what it takes out.
+const POOL: u64 = MAX_POOL / 2;
 const VALUES: [u64; 8] = [1, 10_000, 7, 1 << 40, 2_100_000_000_000_000, 12_345, u64::MAX, 3];
 
 struct Scene {
@@ -29,6 +31,7 @@ impl Scene {
     fn new(fill: usize, seed: u64) -> Scene {
         let mut random = Random::new(seed);
         let mut purse = Purse::from_elsewhere(&mut random, &VALUES.map(Amount));
+        purse.pool = POOL;
         let mut rows: Vec<Bytes32> = (0..fill.min(2)).filter_map(|_| purse.take_spent(&mut random)).collect();
         while rows.len() < fill {
             rows.push(random.bytes());
@@ -80,7 +83,7 @@ fn ledger_of(random: &mut Random, rows: &[Bytes32], roll: &[Bytes32]) -> Ledger 
         roll: roll.concat(),
         spent: rows.len() as u64,
         anchors: roll.len() as u64,
-        pool: 0,
+        pool: POOL,
         tree: Tree::planted(record),
     };
     ledger.table.resize(2_048 * 32, 0);
@@ -123,7 +126,7 @@ fn main() {
     put(&mut out, b'P', &plant_body(&scene.ledger));
     files.iter().for_each(|file| put(&mut out, b'C', file));
     let mut damaged = scene.ledger.clone();
-    damaged.pool = i64::MIN;
+    damaged.pool = MAX_POOL + 1;
     let mut full = scene.ledger.clone();
     full.table.truncate(32 * fill);
     for ledger in [damaged, full] {

@@ -176,7 +176,7 @@ const MAX_MONEY: u64 = 2_100_000_000_000_000;
 pub struct Ledger {
     pub spent: u64,
     pub anchors: u64,
-    pub pool: i64,
+    pub pool: u64,
     pub leaves: u32,
     pub nodes: [Row; 30],
 }
@@ -209,7 +209,7 @@ impl Ledger {
             || u64::from(self.leaves) != self.spent
             || self.anchors == 0
             || self.anchors > room(roll, 1_024) as u64
-            || self.pool.unsigned_abs() > self.spent / 2 * MAX_MONEY
+            || self.pool > MAX_MONEY
             || !rows(table, self.spent).is_sorted_by(rises)
     }
 
@@ -335,6 +335,13 @@ fn new_commitment(case: &[u8; CASE_BYTES], new: usize) -> Row {
     commitment(field(case, new), field(case, new + 32), field(case, new + 40), field(case, new + 72))
 }
 
+// What acceptance leaves in the pool, if that is in its bounds. Neither the pool nor a public value is above all
+// money, so that nothing wraps.
+fn pool_after(case: &[u8; CASE_BYTES], ledger: &Ledger) -> Option<u64> {
+    let left = (ledger.pool + number(case, 0)).checked_sub(number(case, 8));
+    left.filter(|pool| *pool <= MAX_MONEY)
+}
+
 fn judged(file: &[u8], ledger: &mut Ledger, table: &mut [u8], roll: &[u8]) -> Result<(), u32> {
     let Ok(case) = <&[u8; CASE_BYTES]>::try_from(file) else {
         return refused(1, 0);
@@ -344,11 +351,14 @@ fn judged(file: &[u8], ledger: &mut Ledger, table: &mut [u8], roll: &[u8]) -> Re
     }
     ask(case, ledger, table, roll)?;
     check_witness(case)?;
+    let Some(pool) = pool_after(case, ledger) else {
+        return refused(17, 0);
+    };
     ledger.enter(table, field(case, 48));
     ledger.enter(table, field(case, 80));
     ledger.append(field(case, 112));
     ledger.append(field(case, 144));
-    ledger.pool += number(case, 0) as i64 - number(case, 8) as i64;
+    ledger.pool = pool;
     Ok(())
 }
 

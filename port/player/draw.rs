@@ -116,7 +116,7 @@ impl Draw for u8 {
 macro_rules! draw_numbers {
     ($($kind:ident)*) => { $(impl Draw for $kind { fn draw(d: &mut Dice) -> $kind { d.number($kind::BITS) as $kind } })* };
 }
-draw_numbers!(u16 u32 u64 usize i64);
+draw_numbers!(u16 u32 u64 usize);
 
 impl Draw for bool {
     fn draw(d: &mut Dice) -> bool {

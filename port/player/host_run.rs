@@ -4,6 +4,7 @@ use std::collections::hash_map::DefaultHasher;
 use std::hash::{Hash, Hasher};
 
 use second::bag::{read_bag, write_bag};
+use second::tape::Player;
 
 use crate::calls::{Calls, LEDGER_BYTES, SECOND};
 
@@ -17,9 +18,13 @@ impl Script {
     /// A tape's entries and a tray's bags, each up to the end or to where it breaks.
     pub fn new(tape: &[u8], tray: &[u8]) -> Script {
         let (mut script, mut rest) = (Script { tape: Vec::new(), bags: Vec::new() }, tape);
+        let mut player = Player::new();
         while let Some((kind, (body, next))) =
             rest.split_first().and_then(|(kind, after)| Some((kind, counted(after)?)))
         {
+            if player.play(*kind, body).is_none() {
+                break;
+            }
             script.tape.push((*kind, body.to_vec()));
             rest = next;
         }

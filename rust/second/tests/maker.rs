@@ -1163,15 +1163,14 @@ fn the_pool_runs_of_a_tape_find_a_17_that_is_asked_too_early() {
     assert_eq!(RULES[last].answer, Answer::new(17, 0));
     for seed in SEEDS {
         let asked = asked_in_pool_runs(&make_tape(seed, 600).bytes);
-        for earlier in 0..last {
+        for (index, rule) in RULES[..last].iter().enumerate() {
             let is_told = asked.iter().any(|(ledger, case)| {
                 let Some(case) = case else { return false };
                 let applies = |rule: &Rule| (rule.applies)(ledger, case);
                 let first = RULES.iter().position(applies);
-                applies(&RULES[last]) && first.is_some_and(|first| (earlier..last).contains(&first))
+                applies(&RULES[last]) && first.is_some_and(|first| (index..last).contains(&first))
             });
-            let number = RULES[earlier].answer;
-            assert!(is_told, "seed {seed}: 17 before {number}");
+            assert!(is_told, "seed {seed}: 17 before {}", rule.answer);
         }
     }
 }

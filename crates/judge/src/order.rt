@@ -9,8 +9,8 @@ ghost use Rattle.octets.specs.Numbers.{big};
 ghost use Rattle.ledger.specs.Sorted.{isLess, isEqual};
 ghost use Rattle.ledger.specs.Rows.{byteOrder};
 
-// The number that the eight bytes at index at write.
-fn word(s: &[u8], at: usize) -> u64
+// The number that the eight bytes at index at write. For this crate alone, whose modules know that they are there.
+pub fn word(s: &[u8], at: usize) -> u64
     requires { ⌜ at + 8 ≤ length (now s) ⌝ }
     ensures { λ r. ⌜ r ≡ big (take 8 (drop at (now (s .entry)))) ⌝ }
 {

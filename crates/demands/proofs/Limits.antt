@@ -1,12 +1,13 @@
 -- THE LIMITS of document 01, each at what is allowed and at one more, as tests of the definitions, and the one statement that all of them pass. A limit that
 -- was moved in definition and code alike is told by its number here.
 -- Assumes nothing.
-use Prim.Native.Nat.{ℕ, zero, suc, _+_, _*_, _^_, _<_}
-use mathlib.Core.Path.{_≡_, refl, _∙_}
+use Prim.Native.Nat.{ℕ, zero, suc, _+_, _*_, _^_, _<_, _≤_}
+use mathlib.Core.Path.{_≡_, refl, sym, _∙_}
+use mathlib.Core.Logic.{_⊎_, inl, inr}
 use mathlib.Core.Bool.{Bool, true, false, not, _&&_, and-true}
 use mathlib.Core.List.{List, [], _∷_, _++_}
 use native.Mathlib.Omega.{arith}
-use borrow.Author.Tests.{eq-eqb, le-leb, lt-leb}
+use borrow.Author.Tests.{eq-eqb, le-leb, lt-leb, le-ltb, lt-ltb}
 use lib.Dec.{eqb, leb}
 use lib.ListN.{length}
 use Rattle.octets.specs.Parts.{zeros, field, listed}
@@ -15,12 +16,15 @@ use Rattle.octets.specs.Numbers.{little, littleBytes}
 use Rattle.octets.proofs.NumberLaws.{little-bytes}
 use Rattle.octets.proofs.PartLaws.{zeros-length}
 use Rattle.units.specs.Limits.{treeLeaves}
+use Rattle.refusals.specs.Rules.{rulesIn, first, answer, accepted}
+use Rattle.refusals.proofs.RuleLaws.{by-test, one-holds, one-fails}
 use Rattle.sprout.specs.Hashes.{hasTopBits}
 use Rattle.statement.specs.CaseRefusals.{aboveMoney, outOfRange, unbalanced}
 use Rattle.tree.specs.Record.{freshOf}
 use Rattle.ledger.specs.declared.Ledger.{Ledger}
 use Rattle.ledger.specs.Sorted.{rising}
-use Rattle.ledger.specs.Ledgers.{mostNullifiers, mostAnchors, roomIn, spentRows, poolAfter, outside, damage, some, damaged}
+use Rattle.ledger.specs.Ledgers.{mostNullifiers, mostAnchors, roomIn, spentRows, poolAfter, outside, damage, some, damaged, no2, no3, closeRefusals}
+use Rattle.ledger.proofs.Soundness.{Sound, undamaged, at-most}
 use Rattle.bag.specs.Contents.{rowCount, entryOf, inOrder, laidOut}
 use Rattle.books.specs.Tally.{isFull}
 
@@ -47,20 +51,24 @@ withPool n = record { nullifiers = 0; anchors = 1; tree = freshOf; pool = record
 
 limits : List Bool
 limits =
-    -- rows of a table: rounded down, and 2,048 at most
+    -- rows of a table: rounded down, and 65,536 at most
     holds mostNullifiers 0 31 0
     ∷ holds mostNullifiers 1 0 1
-    ∷ holds mostNullifiers 2047 31 2047
     ∷ holds mostNullifiers 2048 0 2048
-    ∷ holds mostNullifiers 2049 0 2048
-    ∷ holds mostNullifiers 65536 0 2048
-    -- rows of a roll: 1,024 at most
+    ∷ holds mostNullifiers 2049 31 2049
+    ∷ holds mostNullifiers 65535 31 65535
+    ∷ holds mostNullifiers 65536 0 65536
+    ∷ holds mostNullifiers 65537 0 65536
+    ∷ holds mostNullifiers 1048576 0 65536
+    -- rows of a roll: 4,096 at most
     ∷ holds mostAnchors 0 31 0
     ∷ holds mostAnchors 1 0 1
-    ∷ holds mostAnchors 1023 31 1023
     ∷ holds mostAnchors 1024 0 1024
-    ∷ holds mostAnchors 1025 0 1024
-    ∷ holds mostAnchors 65536 0 1024
+    ∷ holds mostAnchors 1025 31 1025
+    ∷ holds mostAnchors 4095 31 4095
+    ∷ holds mostAnchors 4096 0 4096
+    ∷ holds mostAnchors 4097 0 4096
+    ∷ holds mostAnchors 65536 0 4096
     -- leaves of the tree, and positions
     ∷ eqb treeLeaves 536870912
     ∷ not (outOfRange (15 ∷ []) 536870911)
@@ -132,3 +140,26 @@ by-length n h =
 
 longest-bag : (laidOut (longBag 65525) ≡ true) × (laidOut (longBag 65526) ≡ false)
 longest-bag = (by-length 65525 (omega arith) ∙ le-leb 65536 65536 (omega arith), by-length 65526 (omega arith) ∙ lt-leb 65537 65536 (omega arith))
+
+-- A TABLE AND A ROLL that have all the rows a ledger may use, or more: of the table the last two are room for a case, of the roll the last one is room for a
+-- closing, and then there is none
+pub full-table : (t : List ℕ) (l : Ledger) → 65536 * 32 ≤ length t → (l .nullifiers ≡ 65534 → first (no3 t l) ≡ accepted) × (l .nullifiers ≡ 65536 → first (no3 t l) ≡ answer 3 0)
+unfolding no3 roomIn
+full-table t l long = (
+  λ e. sym (one-fails _ 3 0 (le-ltb (roomIn mostNullifiers (length t)) (l .nullifiers + 2) (omega arith))),
+  λ e. sym (one-holds _ 3 0 (lt-ltb (roomIn mostNullifiers (length t)) (l .nullifiers + 2) (omega arith))),
+)
+
+pub full-roll : (t r : List ℕ) (l : Ledger) → damaged t r l ≡ false → 4096 * 32 ≤ length r
+    → (l .anchors ≡ 4095 → first (closeRefusals t r l) ≡ accepted) × (l .anchors ≡ 4096 → first (closeRefusals t r l) ≡ answer 3 0)
+unfolding closeRefusals no2 first rulesIn roomIn
+full-roll t r l sound long =
+    (λ e. rw (sound, lt-leb (roomIn mostAnchors (length r)) (l .anchors) (omega arith)), λ e. rw (sound, le-leb (roomIn mostAnchors (length r)) (l .anchors) (omega arith)))
+
+-- however long they are, more in use than that is damage
+pub too-many : (t r : List ℕ) (l : Ledger) → (65536 < l .nullifiers) ⊎ (4096 < l .anchors) → damaged t r l ≡ true
+too-many t r l more = by-test (damaged t r l) (λ yes. yes) (λ no. absurd (go more (undamaged t r l no)))
+  where
+    go : (65536 < l .nullifiers) ⊎ (4096 < l .anchors) → Sound t r l → ⊥
+    go (inl h) s = omega (arith, at-most (l .nullifiers) mostNullifiers (length t) (s .fits))
+    go (inr h) s = omega (arith, at-most (l .anchors) mostAnchors (length r) (s .roll))

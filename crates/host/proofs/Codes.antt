@@ -1,5 +1,5 @@
 -- AN ANSWER AS ONE NUMBER loses nothing. Number, place and row can be read from it, so that two answers with one code are the same answer; and the answer of
--- each C function, and each in a report, has room in it: the row of a spent nullifier is below 2,048. The day list takes what a case was answered, and keeps
+-- each C function, and each in a report, has room in it: the row of a spent nullifier is below 65,536. The day list takes what a case was answered, and keeps
 -- number and place. By the first demand's list of refusals, and over a bag's cases by induction.
 -- Assumes nothing.
 use Prim.Native.Nat.{ℕ, zero, suc, _-_, _/_, _%_, _^_, _<_}

@@ -36,8 +36,8 @@ use Rattle.host.specs.Ledgers.{ledgerAfterOpenCall, judgeAnswer, ledgerA
 -- a ledger that is not damaged fits
 sound-fits : (t r : List ℕ) (l : Ledger) → Sound t r l → length (l .tree .nodes) ≡ 960 → Fits l
 sound-fits t r l s n =
-    let few : l .nullifiers ≤ 2048 = at-most (l .nullifiers) mostNullifiers (length t) (s .fits) in
-    let marks : l .anchors ≤ 1024 = at-most (l .anchors) mostAnchors (length r) (s .roll) in
+    let few : l .nullifiers ≤ 65536 = at-most (l .nullifiers) mostNullifiers (length t) (s .fits) in
+    let marks : l .anchors ≤ 4096 = at-most (l .anchors) mostAnchors (length r) (s .roll) in
     record {
       nullifiers = omega arith;
       anchors = omega arith;

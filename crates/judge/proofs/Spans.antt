@@ -17,16 +17,16 @@ half-is-shorter n m some half = go (size n) (size-lt n)
         let k : size m ≤ z = size-le m z (omega (arith, pow-suc 2 z)) in
         omega arith
 
--- The most rows that are searched: 2,046 where a case is asked about, 2,047 where its second nullifier is entered. One row more would take
+-- The most rows that are searched: 65,534 where a case is asked about, 65,535 where its second nullifier is entered. One row more would take
 -- another comparison.
-eleven-for-2046 : size 2046 ≡ 11
+sixteen-for-65534 : size 65534 ≡ 16
 unfolding size
-eleven-for-2046 = refl
+sixteen-for-65534 = refl
 
-eleven-for-2047 : size 2047 ≡ 11
+sixteen-for-65535 : size 65535 ≡ 16
 unfolding size
-eleven-for-2047 = refl
+sixteen-for-65535 = refl
 
-twelve-for-2048 : size 2048 ≡ 12
+seventeen-for-65536 : size 65536 ≡ 17
 unfolding size
-twelve-for-2048 = refl
+seventeen-for-65536 = refl

@@ -19,10 +19,10 @@ use Rattle.ledger.specs.Rows.{byteOrder, Fresh, among, rowNumberOf}
 
 -- how many rows a lent length holds, and at most so many
 abbrev pub mostNullifiers : ℕ
-mostNullifiers = 2048
+mostNullifiers = 65536
 
 abbrev pub mostAnchors : ℕ
-mostAnchors = 1024
+mostAnchors = 4096
 
 unfoldable pub roomIn : ℕ → ℕ → ℕ
 roomIn most len = min (len / 32) most

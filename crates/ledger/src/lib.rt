@@ -44,9 +44,9 @@ pub enum Found {
 }
 
 // The most rows that are used of a nullifier table and of an anchor roll, however long they are lent.
-pub const MOST_NULLIFIERS: usize = 2048;
+pub const MOST_NULLIFIERS: usize = 65536;
 
-pub const MOST_ANCHORS: usize = 1024;
+pub const MOST_ANCHORS: usize = 4096;
 
 // What a ledger keeps beside its table and its roll.
 pub struct Ledger {

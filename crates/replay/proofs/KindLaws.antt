@@ -2,13 +2,14 @@
 -- Assumes nothing.
 use Prim.Native.Nat.{ℕ, _≤_, _<_}
 use mathlib.Core.Path.{_≡_}
+use mathlib.Core.Bool.{true, false}
 use mathlib.Core.List.{List}
 use lib.ListN.{length, take}
 use borrow.Author.Tests.{ne-eqb, le-leb, lt-leb}
 use Rattle.text.specs.Words.{nameLine}
 use Rattle.replay.specs.declared.State.{State}
 use Rattle.replay.specs.Looks.{ledgerText, rowsText, memoryText, sealText}
-use Rattle.replay.specs.Tape.{turnOf, brokenTurn, openTurn, plantTurn, caseTurn, freshTurn, blockTurn, lookTurn, bareTurn, sealTurn, nameTurn, entryTurn}
+use Rattle.replay.specs.Tape.{turnOf, brokenTurn, openTurn, plantTurn, tableTurn, rollTurn, layTurn, caseTurn, freshTurn, blockTurn, lookTurn, bareTurn, sealTurn, nameTurn, entryTurn}
 
 -- a name that is short enough, and one that is not
 module _ (body t r : List ℕ) (s : State) where
@@ -54,10 +55,6 @@ module _ (kind : ℕ) (t r : List ℕ) (s : State) where
     unfolding entryTurn
     entry-open h = rw h
 
-    pub entry-plant : kind ≡ 80 → plantTurn body t r ≡ entryTurn kind body t r s
-    unfolding entryTurn
-    entry-plant h = rw h
-
     pub entry-case : kind ≡ 67 → caseTurn body t r s ≡ entryTurn kind body t r s
     unfolding entryTurn
     entry-case h = rw h
@@ -74,11 +71,31 @@ module _ (kind : ℕ) (t r : List ℕ) (s : State) where
     unfolding entryTurn
     entry-name h = rw h
 
-    module _ (o : kind ≡ 79 → ⊥) (p : kind ≡ 80 → ⊥) (c : kind ≡ 67 → ⊥) (z : kind ≡ 83 → ⊥) (n : kind ≡ 78 → ⊥) where
+    module _ (o : kind ≡ 79 → ⊥) (c : kind ≡ 67 → ⊥) (z : kind ≡ 83 → ⊥) (n : kind ≡ 78 → ⊥) where
       pub entry-bare : length body ≡ 0 → bareTurn kind t r s ≡ entryTurn kind body t r s
       unfolding entryTurn
-      entry-bare h = rw (ne-eqb kind 79 o, ne-eqb kind 80 p, ne-eqb kind 67 c, ne-eqb kind 83 z, ne-eqb kind 78 n, h)
+      entry-bare h = rw (ne-eqb kind 79 o, ne-eqb kind 67 c, ne-eqb kind 83 z, ne-eqb kind 78 n, h)
 
-      pub entry-other : (length body ≡ 0 → ⊥) → brokenTurn t r ≡ entryTurn kind body t r s
+      pub entry-lay : (length body ≡ 0 → ⊥) → layTurn kind body t r s ≡ entryTurn kind body t r s
       unfolding entryTurn
-      entry-other h = rw (ne-eqb kind 79 o, ne-eqb kind 80 p, ne-eqb kind 67 c, ne-eqb kind 83 z, ne-eqb kind 78 n, ne-eqb (length body) 0 h)
+      entry-lay h = rw (ne-eqb kind 79 o, ne-eqb kind 67 c, ne-eqb kind 83 z, ne-eqb kind 78 n, ne-eqb (length body) 0 h)
+
+    pub lay-given : kind ≡ 80 → plantTurn true body t r ≡ layTurn kind body t r s
+    unfolding layTurn
+    lay-given h = rw h
+
+    pub lay-zeros : kind ≡ 75 → plantTurn false body t r ≡ layTurn kind body t r s
+    unfolding layTurn
+    lay-zeros h = rw h
+
+    pub lay-table : kind ≡ 84 → tableTurn body t r s ≡ layTurn kind body t r s
+    unfolding layTurn
+    lay-table h = rw h
+
+    pub lay-roll : kind ≡ 65 → rollTurn body t r s ≡ layTurn kind body t r s
+    unfolding layTurn
+    lay-roll h = rw h
+
+    pub lay-other : (kind ≡ 80 → ⊥) → (kind ≡ 75 → ⊥) → (kind ≡ 84 → ⊥) → (kind ≡ 65 → ⊥) → brokenTurn t r ≡ layTurn kind body t r s
+    unfolding layTurn
+    lay-other p k t a = rw (ne-eqb kind 80 p, ne-eqb kind 75 k, ne-eqb kind 84 t, ne-eqb kind 65 a)

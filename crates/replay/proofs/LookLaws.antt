@@ -16,7 +16,7 @@ use Rattle.refusals.specs.Rules.{answer}
 use Rattle.sha256.specs.Hash.{sha256Of}
 use Rattle.tree.specs.Record.{recordRoot}
 use Rattle.ledger.specs.declared.Ledger.{Ledger}
-use Rattle.ledger.specs.Ledgers.{mostNullifiers, mostAnchors, roomIn}
+use Rattle.ledger.specs.Ledgers.{roomIn}
 use Rattle.seal.specs.declared.Gate.{Gate}
 use Rattle.seal.specs.declared.Read.{Read}
 use Rattle.seal.specs.declared.Read.the-variants.{Seal, Broken}
@@ -71,7 +71,7 @@ seal-not body read a j k l =
     rw (l, e)
 
 -- all rows, by how many of each are shown
-pub rows-as : (t r : List ℕ) (l : Ledger) {n m : ℕ} → n ≡ rowsShown mostNullifiers (l .nullifiers) t → m ≡ rowsShown mostAnchors (l .anchors) r
+pub rows-as : (t r : List ℕ) (l : Ledger) {n m : ℕ} → n ≡ rowsShown 2048 (l .nullifiers) t → m ≡ rowsShown 1024 (l .anchors) r
     → rowLines (ascii "spent ") n t ++ rowLines (ascii "anchor ") m r ≡ rowsText t r l
 unfolding rowsText
 rows-as t r l h k = rw (h, k)

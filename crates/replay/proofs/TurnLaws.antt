@@ -1,15 +1,16 @@
 -- What a run of an entry's calls leaves and writes is the turn of the definition. n and m are the bytes lent of the buffers t and r, p and q what the
 -- calls left in them, x and x′ the page before and after, s the state that is answered and e the text's end.
 -- Assumes nothing.
-use Prim.Native.Nat.{ℕ, _+_, _≤_}
+use Prim.Native.Nat.{ℕ, _+_, _%_, _^_, _≤_}
 use mathlib.Core.Path.{_≡_, refl, sym, ap, subst, _∙_}
 use mathlib.Core.Bool.{Bool, true, false, cond}
 use mathlib.Core.List.{List, _++_}
+use native.Mathlib.Numerals.{add-one}
 use native.Mathlib.Omega.{arith}
 use lib.Dec.{eqb, leb}
 use lib.ListN.{length, take, drop, length-append}
 use lib.Seq.{length-take-le, take-at, drop-at}
-use borrow.Author.Tests.{leb-true}
+use borrow.Author.Tests.{eqb-true, leb-true}
 use Rattle.octets.specs.Numbers.{little}
 use Rattle.octets.specs.Parts.{zeros, field}
 use Rattle.octets.proofs.PartLaws.{zeros-length, field-length}
@@ -27,7 +28,7 @@ use Rattle.ledgerbytes.specs.LedgerBytes.{ledgerOf}
 use Rattle.judge.specs.Judging.{tableAfterCase, judgedOf}
 use Rattle.replay.specs.declared.State.{State}
 use Rattle.replay.specs.declared.Ran.{Ran}
-use Rattle.replay.specs.Tape.{Turn, turnOf, runningOn, nothing, brokenTurn, longest, canLend, lends, openOn, openTurn, plantOn, plantTurn, caseOn, caseTurn, freshOn, freshTurn, blockOn, blockTurn, LentWithin, Plays}
+use Rattle.replay.specs.Tape.{Turn, turnOf, runningOn, nothing, brokenTurn, longest, canLend, lends, openOn, openTurn, plantOn, plantLength, plantTurn, rowLaid, rowsLaid, laidBy, canLay, tableTurn, rollTurn, caseOn, caseTurn, freshOn, freshTurn, blockOn, blockTurn, LentWithin, Plays}
 
 -- the same turn by another name
 pub plays-as : {u v : Turn} {t r x x′ : List ℕ} {a : Ran} → u ≡ v → Plays u t r x x′ a → Plays v t r x x′ a
@@ -84,19 +85,63 @@ open-plays body t r p q x x′ n m e b a s hn hm hb h ha hl hp hq hk w hs =
     let v : turnOf (runningOn (a .ledger) n m) (p ++ drop n t) (q ++ drop m r) (answerLine (ascii "open") (a .answer)) ≡ openOn n m t r = rw (ha, hl, hp, hq, i, j, f, g) in
     plays-as (v ∙ d) (plays (omega arith) hs (record { table = still n p t (ap length hp ∙ zeros-length _ ∙ i); roll = still m q r (hk ∙ j) }) w)
 
--- P
-pub plant-plays : (body t r p q x x′ : List ℕ) (n m e : ℕ) (b : Bool) (a : Answer) (l : Ledger) (s : State) → n ≡ little (field 988 4 body)
-    → m ≡ little (field 992 4 body) → b ≡ canLend (eqb (length body) (996 + n + m)) n m (length t) (length r) → b ≡ true
+-- P and K
+pub plant-plays : (given : Bool) (body t r p q x x′ : List ℕ) (n m e : ℕ) (b : Bool) (a : Answer) (l : Ledger) (s : State) → n ≡ little (field 988 4 body)
+    → m ≡ little (field 992 4 body) → b ≡ canLend (eqb (length body) (plantLength given n m)) n m (length t) (length r) → b ≡ true
     → p ≡ field 996 (length (take n t)) body → q ≡ field (996 + n) (length (take m r)) body → a ≡ accepted → l ≡ ledgerOf body
     → Wrote 48 (answerLine (ascii "plant") a) (pen x 0) (pen x′ e) → s ≡ runningOn l n m
-    → Plays (plantTurn body t r) (p ++ drop n t) (q ++ drop m r) x x′ (record { state = s; end = e })
+    → Plays (plantTurn given body t r) (p ++ drop n t) (q ++ drop m r) x x′ (record { state = s; end = e })
 unfolding plantTurn plantOn
-plant-plays body t r p q x x′ n m e b a l s hn hm hb h hp hq ha hl w hs =
+plant-plays given body t r p q x x′ n m e b a l s hn hm hb h hp hq ha hl w hs =
     let i : length (take n t) ≡ n = length-take-le n t (lent-table _ n m _ _ hb h) in
     let j : length (take m r) ≡ m = length-take-le m r (lent-roll _ n m _ _ hb h) in
-    let d : plantOn n m body t r ≡ plantTurn body t r = lends-by _ _ t r hn hm hb h in
+    let d : plantOn n m body t r ≡ plantTurn given body t r = lends-by _ _ t r hn hm hb h in
     let v : turnOf (runningOn l n m) (p ++ drop n t) (q ++ drop m r) (answerLine (ascii "plant") a) ≡ plantOn n m body t r = rw (ha, hl, hp, hq, i, j) in
     plays-as (v ∙ d) (plays (omega arith) hs (record { table = still n p t (ap length hp ∙ field-length 996 _ body ∙ i); roll = still m q r (ap length hq ∙ field-length (996 + n) _ body ∙ j) }) w)
+
+-- one row of several that are laid, and then the others
+pub rows-turn : (m k at at′ number number′ step : ℕ) (tail b b′ : List ℕ) → m ≡ k + 1 → at′ ≡ at + 32 → number′ ≡ (number + step) % 2 ^ 64 → b′ ≡ rowLaid at number tail b
+    → rowsLaid m at number step tail b ≡ rowsLaid k at′ number′ step tail b′
+unfolding rowsLaid
+rows-turn m k at at′ number number′ step tail b b′ e ha hn hb = ap (λ (n : ℕ). rowsLaid n at number step tail b) (e ∙ add-one k) ∙ rw (ha, hn, hb)
+
+pub rows-same : (m m′ at at′ number step : ℕ) (tail b : List ℕ) → m ≡ m′ → at ≡ at′ → rowsLaid m at number step tail b ≡ rowsLaid m′ at′ number step tail b
+rows-same m m′ at at′ number step tail b hm ha = rw (hm, ha)
+
+pub rows-none : (m at number step : ℕ) (tail b : List ℕ) → m ≡ 0 → rowsLaid m at number step tail b ≡ b
+unfolding rowsLaid
+rows-none m at number step tail b e = rw e
+
+-- T and A: rows laid in the lent part of one buffer
+module _ (body t r p x x′ : List ℕ) (e : ℕ) (z : State) (b : Bool) (a : Answer) (h : LentWithin z t r) (ha : a ≡ accepted) (w : Wrote 47 (answerLine (ascii "fill") a) (pen x 0) (pen x′ e)) where
+  pub table-plays : b ≡ canLay body (z .table) → b ≡ true → p ≡ laidBy body (take (z .table) t) → length p ≡ length (take (z .table) t)
+      → Plays (tableTurn body t r z) (p ++ drop (z .table) t) r x x′ (record { state = z; end = e })
+  unfolding tableTurn
+  table-plays hb taken hp hk =
+      let v : turnOf z (p ++ drop (z .table) t) r (answerLine (ascii "fill") a) ≡ tableTurn body t r z = rw (ha, hp, sym hb ∙ taken) in
+      plays-as v (plays (omega arith) refl (record { table = still (z .table) p t (hk ∙ length-take-le (z .table) t (h .table)); roll = h .roll }) w)
+
+  pub roll-laid-plays : b ≡ canLay body (z .roll) → b ≡ true → p ≡ laidBy body (take (z .roll) r) → length p ≡ length (take (z .roll) r)
+      → Plays (rollTurn body t r z) t (p ++ drop (z .roll) r) x x′ (record { state = z; end = e })
+  unfolding rollTurn
+  roll-laid-plays hb taken hp hk =
+      let v : turnOf z t (p ++ drop (z .roll) r) (answerLine (ascii "fill") a) ≡ rollTurn body t r z = rw (ha, hp, sym hb ∙ taken) in
+      plays-as v (plays (omega arith) refl (record { table = h .table; roll = still (z .roll) p r (hk ∙ length-take-le (z .roll) r (h .roll)) }) w)
+
+-- rows that can be laid have a whole body
+pub can-lay-whole : {b : Bool} (body : List ℕ) (lent : ℕ) → b ≡ canLay body lent → b ≡ true → length body ≡ 48
+unfolding canLay
+can-lay-whole body lent hb taken = eqb-true (length body) 48 (and-both (eqb (length body) 48) _ (sym hb ∙ taken) .0)
+
+-- rows that cannot be laid
+module _ (body t r : List ℕ) (z : State) {b : Bool} where
+  pub table-broken : b ≡ canLay body (z .table) → b ≡ false → brokenTurn t r ≡ tableTurn body t r z
+  unfolding tableTurn
+  table-broken hb left = rw (sym hb ∙ left)
+
+  pub roll-broken : b ≡ canLay body (z .roll) → b ≡ false → brokenTurn t r ≡ rollTurn body t r z
+  unfolding rollTurn
+  roll-broken hb left = rw (sym hb ∙ left)
 
 -- C
 pub case-plays : (body t r p x x′ : List ℕ) (e : ℕ) (z : State) (a : Answered) (s : State) → LentWithin z t r

@@ -16,7 +16,7 @@ use Rattle.refusals.specs.Rules.{answer}
 use Rattle.sha256.specs.Hash.{sha256Of}
 use Rattle.tree.specs.Record.{recordRoot}
 use Rattle.ledger.specs.declared.Ledger.{Ledger}
-use Rattle.ledger.specs.Ledgers.{mostNullifiers, mostAnchors, roomIn}
+use Rattle.ledger.specs.Ledgers.{roomIn}
 use Rattle.seal.specs.declared.Calibration.{Calibration}
 use Rattle.seal.specs.declared.Read.{Read}
 use Rattle.seal.specs.declared.Read.the-variants.{Seal, Broken}
@@ -31,7 +31,7 @@ ledgerText l =
     ascii "ledger spent " ++ decimal (l .nullifiers) ++ ascii " leaves " ++ decimal (l .tree .leaves) ++ ascii " anchors " ++ decimal (l .anchors)
     ++ ascii " pool " ++ decimal (l .pool .0) ++ ascii " root " ++ hex (recordRoot (l .tree)) ++ ascii "\n"
 
--- ITS ROWS: a line for each that the ledger's count claims and the lent bytes have room for
+-- ITS ROWS: a line for each that the ledger's count claims and the lent bytes have room for, up to 2,048 of the table and 1,024 of the roll
 unfoldable pub rowLine : List ℕ → List ℕ → List ℕ
 rowLine word row = word ++ hex row ++ ascii "\n"
 
@@ -43,7 +43,7 @@ rowsShown most count bytes = min count (roomIn most (length bytes))
 
 unfoldable pub rowsText : List ℕ → List ℕ → Ledger → List ℕ
 rowsText t r l =
-    rowLines (ascii "spent ") (rowsShown mostNullifiers (l .nullifiers) t) t ++ rowLines (ascii "anchor ") (rowsShown mostAnchors (l .anchors) r) r
+    rowLines (ascii "spent ") (rowsShown 2048 (l .nullifiers) t) t ++ rowLines (ascii "anchor ") (rowsShown 1024 (l .anchors) r) r
 
 -- ITS MEMORY: a hash of every lent byte, the spare ones too, and of every node of the record, the unused ones too
 unfoldable pub memoryText : List ℕ → List ℕ → Ledger → List ℕ

@@ -1,15 +1,15 @@
 -- What each entry of a tape leaves and prints. An entry is a kind (1 byte), its body's length (4) and its body. t and r are the buffers for the
 -- nullifier table and the anchor roll, s is what was kept from the entry before: the ledger, and how many bytes of each buffer are lent to it.
 -- Assumes nothing.
-use Prim.Native.Nat.{ℕ, _+_, _≤_}
+use Prim.Native.Nat.{ℕ, zero, suc, _+_, _*_, _%_, _^_, _≤_}
 use Prim.Native.String.{String}
 use mathlib.Core.Path.{_≡_}
 use mathlib.Core.Bool.{Bool, true, false, _&&_, cond}
 use mathlib.Core.List.{List, [], _++_}
 use lib.Dec.{eqb, leb}
 use lib.ListN.{length, take, drop, getD}
-use Rattle.octets.specs.Numbers.{little}
-use Rattle.octets.specs.Parts.{zeros, field}
+use Rattle.octets.specs.Numbers.{little, bigBytes}
+use Rattle.octets.specs.Parts.{zeros, field, pasted}
 use Rattle.text.specs.Words.{ascii, nameLine}
 use Rattle.text.specs.Answers.{answerLine, answerAndRow}
 use Rattle.text.specs.Pen.{pen, Wrote}
@@ -73,13 +73,50 @@ openOn n m t r = freshOn n m (zeros n ++ drop n t) (zeros m ++ drop m r)
 unfoldable pub openTurn : List ℕ → List ℕ → List ℕ → Turn
 openTurn body t r = lends (λ n m. eqb (length body) 8) (λ n m. openOn n m t r) (little (field 0 4 body)) (little (field 4 4 body)) t r
 
--- P PLANTS any ledger, a damaged one too. Body: the ledger (988), how many bytes of the table (4) and of the roll (4), and those bytes
+-- P AND K PLANT any ledger, a damaged one too. Body: the ledger (988), how many bytes of the table (4) and of the roll (4); of P also these bytes, which
+-- are zeros of K, since a body that has ended reads so
 unfoldable pub plantOn : ℕ → ℕ → List ℕ → List ℕ → List ℕ → Turn
 plantOn n m body t r =
     turnOf (runningOn (ledgerOf body) n m) (field 996 n body ++ drop n t) (field (996 + n) m body ++ drop m r) (answerLine (ascii "plant") accepted)
 
-unfoldable pub plantTurn : List ℕ → List ℕ → List ℕ → Turn
-plantTurn body t r = lends (λ n m. eqb (length body) (996 + n + m)) (λ n m. plantOn n m body t r) (little (field 988 4 body)) (little (field 992 4 body)) t r
+unfoldable pub plantLength : Bool → ℕ → ℕ → ℕ
+plantLength given n m = cond given (996 + n + m) 996
+
+unfoldable pub plantTurn : Bool → List ℕ → List ℕ → List ℕ → Turn
+plantTurn given body t r =
+    lends (λ n m. eqb (length body) (plantLength given n m)) (λ n m. plantOn n m body t r) (little (field 988 4 body)) (little (field 992 4 body)) t r
+
+-- T AND A LAY ROWS by rule, T in the table and A in the roll. Body: the first row (4), how many (4), a number (8), a step (8) and 24 bytes. A row is
+-- the number's eight bytes, the highest first, and behind them the 24; the next row's number is higher by the step, and 2^64 is 0 again
+unfoldable pub rowLaid : ℕ → ℕ → List ℕ → List ℕ → List ℕ
+rowLaid at number tail b = pasted (at + 8) tail (pasted at (bigBytes 8 number) b)
+
+unfoldable pub rowsLaid : ℕ → ℕ → ℕ → ℕ → List ℕ → List ℕ → List ℕ
+rowsLaid zero at number step tail b = b
+rowsLaid (suc n) at number step tail b = rowsLaid n (at + 32) ((number + step) % 2 ^ 64) step tail (rowLaid at number tail b)
+
+unfoldable pub laidBy : List ℕ → List ℕ → List ℕ
+laidBy body b = rowsLaid (little (field 4 4 body)) (little (field 0 4 body) * 32) (little (field 8 8 body)) (little (field 16 8 body)) (take 24 (drop 24 body)) b
+
+-- the body is whole, and so many lent bytes have the rows
+unfoldable pub canLay : List ℕ → ℕ → Bool
+canLay body lent = eqb (length body) 48 && leb ((little (field 0 4 body) + little (field 4 4 body)) * 32) lent
+
+unfoldable pub tableTurn : List ℕ → List ℕ → List ℕ → State → Turn
+tableTurn body t r s =
+    cond (canLay body (s .table)) (turnOf s (laidBy body (take (s .table) t) ++ drop (s .table) t) r (answerLine (ascii "fill") accepted)) (brokenTurn t r)
+
+unfoldable pub rollTurn : List ℕ → List ℕ → List ℕ → State → Turn
+rollTurn body t r s =
+    cond (canLay body (s .roll)) (turnOf s t (laidBy body (take (s .roll) r) ++ drop (s .roll) r) (answerLine (ascii "fill") accepted)) (brokenTurn t r)
+
+unfoldable pub layTurn : ℕ → List ℕ → List ℕ → List ℕ → State → Turn
+layTurn kind body t r s =
+    cond (isKind "P" kind) (plantTurn true body t r)
+    (cond (isKind "K" kind) (plantTurn false body t r)
+    (cond (isKind "T" kind) (tableTurn body t r s)
+    (cond (isKind "A" kind) (rollTurn body t r s)
+    (brokenTurn t r))))
 
 -- C JUDGES a case, which is the body; behind the line of one that is refused as spent stands that of the row
 unfoldable pub caseOn : ℕ → ℕ → Ledger → List ℕ → List ℕ → List ℕ → Turn
@@ -123,12 +160,11 @@ nameTurn body t r s = cond (leb (length body) 100) (turnOf s t r (nameLine body)
 unfoldable pub entryTurn : ℕ → List ℕ → List ℕ → List ℕ → State → Turn
 entryTurn kind body t r s =
     cond (isKind "O" kind) (openTurn body t r)
-    (cond (isKind "P" kind) (plantTurn body t r)
     (cond (isKind "C" kind) (caseTurn body t r s)
     (cond (isKind "S" kind) (sealTurn body t r s)
     (cond (isKind "N" kind) (nameTurn body t r s)
     (cond (eqb (length body) 0) (bareTurn kind t r s)
-    (brokenTurn t r))))))
+    (layTurn kind body t r s)))))
 
 -- WHAT STANDS NEXT on the tape, whose body was read to the start of the buffer b: at the end nothing is printed
 unfoldable pub nextTurn : Next → List ℕ → List ℕ → List ℕ → State → Turn
@@ -147,7 +183,7 @@ pub record LentWithin (s : State) (t r : List ℕ) : Type 0 where
   pub table : s .table ≤ length t
   pub roll : s .roll ≤ length r
 
--- the longest text of an entry: 2,048 lines of 71 bytes and 1,024 of 72
+-- the longest text of an entry: a look at 2,048 rows of the table, 71 bytes each, and 1,024 of the roll, 72 each
 abbrev pub longest : ℕ
 longest = 219136
 

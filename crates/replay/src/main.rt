@@ -4,9 +4,9 @@
 // is, is left to `judge`, `ledger` and `seal`.
 ghost use mathlib.Core.Path.{_≡_};
 ghost use mathlib.Core.Bool.{false};
-ghost use Prim.Native.Nat.{_+_, _*_, _≤_, min};
+ghost use Prim.Native.Nat.{_+_, _*_, _^_, _<_, _≤_, min};
 ghost use mathlib.Core.List.{_++_};
-ghost use lib.ListN.{length};
+ghost use lib.ListN.{length, take, drop};
 ghost use Rattle.octets.specs.Parts.{zeros};
 ghost use Rattle.refusals.specs.Rules.{first, answer};
 ghost use Rattle.sha256.specs.Hash.{sha256Of};
@@ -18,11 +18,9 @@ ghost use Rattle.text.specs.Answers.{answerWords, answerLine};
 ghost use Rattle.text.specs.Hex.{hex, hex64};
 ghost use Rattle.text.specs.Pen.{pen, Wrote};
 ghost use Rattle.replay.specs.Looks.{ledgerText, rowLine, rowLines, rowsText, memoryText, pullBits, sealedText, sealText};
-ghost use Rattle.replay.specs.Tape.{nothing as nothingOf, runningOn, canLend, openTurn, plantTurn, caseTurn, freshTurn, blockTurn, lookTurn, bareTurn, nameTurn, entryTurn, nextTurn, entryLength, longest, LentWithin, Plays};
+ghost use Rattle.replay.specs.Tape.{nothing as nothingOf, runningOn, canLend, openTurn, plantLength, plantTurn, rowLaid, laidBy, canLay, tableTurn, rollTurn, layTurn, caseTurn, freshTurn, blockTurn, lookTurn, bareTurn, nameTurn, entryTurn, nextTurn, entryLength, longest, LentWithin, Plays};
 use ledger::Answered;
 use ledger::Ledger;
-use ledger::MOST_ANCHORS;
-use ledger::MOST_NULLIFIERS;
 use libc::STDIN_FILENO;
 use refusals::Answer;
 use seal::Calibration;
@@ -162,8 +160,8 @@ fn put_rows(out: &mut [u8], at: usize, word: &[u8], n: usize, bytes: &[u8]) -> u
 fn put_all_rows(out: &mut [u8], table: &[u8], roll: &[u8], l: Ledger) -> usize
     ensures { λ r. ⌜ Wrote longest (rowsText (now (table .entry)) (now (roll .entry)) l) (pen (now (out .entry)) 0) (pen (now (out .exit)) r) ⌝ }
 {
-    let n = rows_shown(MOST_NULLIFIERS, l.nullifiers, table.len());
-    let m = rows_shown(MOST_ANCHORS, l.anchors, roll.len());
+    let n = rows_shown(2048, l.nullifiers, table.len());
+    let m = rows_shown(1024, l.anchors, roll.len());
     let next = put_rows(out, 0, b"spent ", n, table);
     put_rows(out, next, b"anchor ", m, roll)
 }
@@ -273,17 +271,119 @@ fn run_open(body: &[u8], table: &mut [u8], roll: &mut [u8], out: &mut [u8]) -> R
     broken(out)
 }
 
-fn run_plant(body: &[u8], table: &mut [u8], roll: &mut [u8], out: &mut [u8]) -> Ran
-    ensures { λ a. ⌜ Plays (plantTurn (now (body .entry)) (now (table .entry)) (now (roll .entry))) (now (table .exit)) (now (roll .exit)) (now (out .entry)) (now (out .exit)) a ⌝ }
+// How long the body is of an entry that plants: with the bytes of table and roll given in it, or without.
+fn plant_length(given: bool, n: usize, m: usize) -> usize
+    requires { ⌜ n + m < 2 ^ 33 ⌝ }
+    ensures { λ r. ⌜ r ≡ plantLength given n m ⌝ }
+{
+    if given {
+        return 996 + n + m;
+    }
+    996
+}
+
+fn run_plant(given: bool, body: &[u8], table: &mut [u8], roll: &mut [u8], out: &mut [u8]) -> Ran
+    ensures { λ a. ⌜ Plays (plantTurn given (now (body .entry)) (now (table .entry)) (now (roll .entry))) (now (table .exit)) (now (roll .exit)) (now (out .entry)) (now (out .exit)) a ⌝ }
 {
     let n = octets::le32(body, 988) as usize;
     let m = octets::le32(body, 992) as usize;
-    if can_lend(body.len() == 996 + n + m, n, m, table.len(), roll.len()) {
+    let whole = body.len() == plant_length(given, n, m);
+    if can_lend(whole, n, m, table.len(), roll.len()) {
         octets::fill(&mut table[..n], body, 996);
         octets::fill(&mut roll[..m], body, 996 + n);
         let end = text::put_answer_line(out, 0, b"plant", Answer::accepted());
         let state = going_on(ledgerbytes::read(body), n, m);
         return Ran { state, end };
+    }
+    broken(out)
+}
+
+// One row that is laid by rule: the number's eight bytes, the highest first, and 24 bytes of the entry.
+fn lay_row(bytes: &mut [u8], at: usize, number: u64, body: &[u8])
+    requires { ⌜ (length (now body) ≡ 48) × (at < 2 ^ 40) ⌝ }
+    ensures { λ _. ⌜ now (bytes .exit) ≡ rowLaid at number (take 24 (drop 24 (now (body .entry)))) (now (bytes .entry)) ⌝ }
+{
+    let high = octets::be_bytes64(number);
+    octets::copy_in(&mut *bytes, at, &high);
+    octets::copy_in(bytes, at + 8, &body[24..48]);
+}
+
+// The rows that an entry lays by rule, one after the other.
+fn lay_rows(bytes: &mut [u8], body: &[u8])
+    requires { ⌜ length (now body) ≡ 48 ⌝ }
+    ensures { λ _. ⌜ now (bytes .exit) ≡ laidBy (now (body .entry)) (now (bytes .entry)) ⌝ }
+{
+    let first = octets::le32(body, 0) as usize;
+    let rows = octets::le32(body, 4) as usize;
+    let step = octets::le64(body, 16);
+    let mut number = octets::le64(body, 8);
+    for i in 0..rows {
+        lay_row(&mut *bytes, (first + i) * 32, number, body);
+        number = std::num::wrapping_add_u64(number, step);
+    }
+}
+
+// Whether an entry's body is whole and so many lent bytes have the rows that it lays.
+fn can_lay(body: &[u8], lent: usize) -> bool
+    ensures { λ r. ⌜ r ≡ canLay (now (body .entry)) lent ⌝ }
+{
+    if body.len() == 48 {
+        let first = octets::le32(body, 0) as usize;
+        let rows = octets::le32(body, 4) as usize;
+        return (first + rows) * 32 <= lent;
+    }
+    false
+}
+
+fn run_table(body: &[u8], table: &mut [u8], roll: &[u8], state: State, out: &mut [u8]) -> Ran
+    requires { ⌜ LentWithin state (now table) (now roll) ⌝ }
+    ensures { λ a. ⌜ Plays (tableTurn (now (body .entry)) (now (table .entry)) (now (roll .entry)) state) (now (table .exit)) (now (roll .entry)) (now (out .entry)) (now (out .exit)) a ⌝ }
+{
+    let n = state.table;
+    if can_lay(body, n) {
+        lay_rows(&mut table[..n], body);
+        let end = text::put_answer_line(out, 0, b"fill", Answer::accepted());
+        return Ran { state, end };
+    }
+    broken(out)
+}
+
+fn run_roll(body: &[u8], table: &[u8], roll: &mut [u8], state: State, out: &mut [u8]) -> Ran
+    requires { ⌜ LentWithin state (now table) (now roll) ⌝ }
+    ensures { λ a. ⌜ Plays (rollTurn (now (body .entry)) (now (table .entry)) (now (roll .entry)) state) (now (table .entry)) (now (roll .exit)) (now (out .entry)) (now (out .exit)) a ⌝ }
+{
+    let m = state.roll;
+    if can_lay(body, m) {
+        lay_rows(&mut roll[..m], body);
+        let end = text::put_answer_line(out, 0, b"fill", Answer::accepted());
+        return Ran { state, end };
+    }
+    broken(out)
+}
+
+// Entries that lay down a ledger or rows, which no call has made.
+fn run_lay(
+    kind: u8,
+    body: &[u8],
+    table: &mut [u8],
+    roll: &mut [u8],
+    state: State,
+    out: &mut [u8],
+) -> Ran
+    requires { ⌜ LentWithin state (now table) (now roll) ⌝ }
+    ensures { λ a. ⌜ Plays (layTurn kind (now (body .entry)) (now (table .entry)) (now (roll .entry)) state) (now (table .exit)) (now (roll .exit)) (now (out .entry)) (now (out .exit)) a ⌝ }
+{
+    if kind == b'P' {
+        return run_plant(true, body, table, roll, out);
+    }
+    if kind == b'K' {
+        return run_plant(false, body, table, roll, out);
+    }
+    if kind == b'T' {
+        return run_table(body, table, roll, state, out);
+    }
+    if kind == b'A' {
+        return run_roll(body, table, roll, state, out);
     }
     broken(out)
 }
@@ -387,9 +487,6 @@ fn run(
     if kind == b'O' {
         return run_open(body, table, roll, out);
     }
-    if kind == b'P' {
-        return run_plant(body, table, roll, out);
-    }
     if kind == b'C' {
         return run_case(body, table, roll, state, out);
     }
@@ -406,7 +503,7 @@ fn run(
     if body.len() == 0 {
         return run_bare(kind, table, roll, state, out);
     }
-    broken(out)
+    run_lay(kind, body, table, roll, state, out)
 }
 
 // Reads the next entry's body to the start of a buffer as long as the longest body. A read that fails
@@ -483,12 +580,12 @@ fn play(buffer: &mut [u8], table: &mut [u8], roll: &mut [u8], out: &mut [u8])
     }
 }
 
-// The longest body, table, roll and text that a tape may have. A table of 65,631 bytes has two rows more
-// than the 2,048 that a ledger may use, and 31 bytes; a roll of 32,863 bytes two more than 1,024, and 31.
+// The longest body, table, roll and text that a tape may have. A table of 2,097,247 bytes has two rows more than
+// the 65,536 that a ledger may use, and 31 bytes; a roll of 131,167 bytes two more than 4,096, and 31.
 fn main() {
     let mut buffer = [0u8; 131072];
-    let mut table = [0u8; 65631];
-    let mut roll = [0u8; 32863];
+    let mut table = [0u8; 2097247];
+    let mut roll = [0u8; 131167];
     let mut out = [0u8; 219136];
     play(&mut buffer, &mut table, &mut roll, &mut out);
 }

@@ -3,7 +3,7 @@
 use crate::answer::Answer;
 use crate::bytes::Reader;
 use crate::judge::judge;
-use crate::ledger::{Ledger, MAX_ANCHORS, MAX_SPENT, ROW_BYTES};
+use crate::ledger::{Ledger, ROW_BYTES};
 use crate::seal::{judge_seal, Calibration, Seal, SEAL_BYTES};
 
 /// The longest bag.
@@ -124,11 +124,13 @@ fn judge_contents(bag: &Bag, told: Telling) -> Vec<String> {
     lines
 }
 
-/// A fresh ledger with all the room that there may be.
+/// Rows that the program lends, fewer than a ledger may use.
+const PROGRAM_ROWS: (usize, usize) = (2_048, 1_024);
+
+/// A fresh ledger on the program's own buffers.
 fn program_ledger() -> Ledger {
-    let table = vec![0; MAX_SPENT * ROW_BYTES];
-    let roll = vec![0; MAX_ANCHORS * ROW_BYTES];
-    Ledger::open(table, roll).0
+    let (table, roll) = PROGRAM_ROWS;
+    Ledger::open(vec![0; table * ROW_BYTES], vec![0; roll * ROW_BYTES]).0
 }
 
 /// Writes a bag of sound layout around these bodies, the seal's first.

@@ -10,10 +10,10 @@ use crate::tree::{empty_root, Record, Tree, DEPTH};
 pub const ROW_BYTES: usize = 32;
 
 /// The most nullifiers that a ledger has room for.
-pub const MAX_SPENT: usize = 2_048;
+pub const MAX_SPENT: usize = 65_536;
 
 /// The most anchors that a ledger has room for.
-pub const MAX_ANCHORS: usize = 1_024;
+pub const MAX_ANCHORS: usize = 4_096;
 
 /// The most that the pool may hold: 2,100,000,000,000,000.
 pub const MAX_POOL: u64 = 2_100_000_000_000_000;
@@ -82,19 +82,19 @@ impl Ledger {
     }
 
     /// The used table rows, as far as the table has room for them.
-    pub fn spent_rows(&self) -> Vec<Bytes32> {
+    pub fn spent_rows(&self) -> &[Bytes32] {
         used_rows(&self.table, self.spent, self.table_room())
     }
 
     /// The used roll rows, as far as the roll has room for them.
-    pub fn anchor_rows(&self) -> Vec<Bytes32> {
+    pub fn anchor_rows(&self) -> &[Bytes32] {
         used_rows(&self.roll, self.anchors, self.roll_room())
     }
 
     /// The used table row in which this nullifier stands, from the top.
     pub fn row_of(&self, nullifier: &Bytes32) -> Option<Row> {
-        let rows = self.spent_rows();
-        let index = rows.iter().position(|row| row == nullifier)?;
+        let mut rows = self.spent_rows().iter();
+        let index = rows.position(|row| row == nullifier)?;
         Some(Row(index as u64))
     }
 
@@ -112,7 +112,7 @@ impl Ledger {
     pub fn is_damaged(&self) -> bool {
         !self.spent.is_multiple_of(2)
             || self.spent > self.table_room()
-            || !is_strictly_rising(&self.spent_rows())
+            || !is_strictly_rising(self.spent_rows())
             || u64::from(self.tree.count()) != self.spent
             || self.anchors == 0
             || self.anchors > self.roll_room()
@@ -126,7 +126,7 @@ impl Ledger {
 
     /// Enters a case that nothing refuses.
     pub fn accept(&mut self, case: &Case) {
-        let mut rows = self.spent_rows();
+        let mut rows = self.spent_rows().to_vec();
         rows.extend(case.nullifiers);
         rows.sort();
         write_rows(&mut self.table, &rows);
@@ -154,7 +154,7 @@ impl Ledger {
 
     /// Writes the next roll row; there must be one.
     fn add_anchor(&mut self, root: &Bytes32) {
-        let mut rows = self.anchor_rows();
+        let mut rows = self.anchor_rows().to_vec();
         rows.push(*root);
         write_rows(&mut self.roll, &rows);
         self.anchors += 1;
@@ -167,9 +167,9 @@ fn room(buffer: &[u8], limit: usize) -> u64 {
 }
 
 /// The first rows of a buffer, as many as are used.
-fn used_rows(buffer: &[u8], used: u64, room: u64) -> Vec<Bytes32> {
+fn used_rows(buffer: &[u8], used: u64, room: u64) -> &[Bytes32] {
     let (rows, _) = buffer.as_chunks::<ROW_BYTES>();
-    rows[..used.min(room) as usize].to_vec()
+    &rows[..used.min(room) as usize]
 }
 
 /// Writes these rows over the first rows of a buffer; later bytes stay.

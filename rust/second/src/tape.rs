@@ -11,16 +11,22 @@
 //! | `B` | empty | closes a block | `block N P` |
 //! | `S` | gain (8), offset (8), a seal (25) | judges the seal | `seal N P`, and the pull's bits on a pass |
 //! | `L` | empty | looks at the ledger | `ledger spent S leaves L anchors A pool P root HEX` |
-//! | `R` | empty | looks at the rows | `spent HEX` for each used table row, then `anchor HEX` for each used roll row |
+//! | `R` | empty | looks at the rows | `spent HEX` for each used table row, at most 2,048 of them, then `anchor HEX` for each used roll row, at most 1,024 |
 //! | `M` | empty | looks at the memory | `memory T R N`: the SHA-256 of the whole table, of the whole roll and of the record's 30 nodes, spare bytes and unused nodes included |
 //! | `N` | a name, at most 100 bytes | names the run that follows | `run NAME` |
 //! | `P` | counts and pool (3 x 8), the tree record, table length (4), roll length (4), both buffers | plants any ledger, damaged ones too | `plant 0 0` |
+//! | `K` | as `P` up to the two lengths | plants any ledger on zeroed buffers of those lengths | `plant 0 0` |
+//! | `T` | first row (4), number of rows (4), start (8), step (8), tail (24) | fills rows of the lent table by rule | `fill 0 0` |
+//! | `A` | the same | fills rows of the lent roll by rule | `fill 0 0` |
+//!
+//! By the rule the k-th of the rows that are filled, k from 0, is the number
+//! start + k * step modulo 2^64, its highest byte first, and then the tail.
 //!
 //! Anything else, a wrong length, or an end inside an entry prints
 //! `tape 50 0` and ends the run.
 
 use crate::answer::Answer;
-use crate::bytes::{hex, Reader};
+use crate::bytes::{hex, Bytes32, Reader};
 use crate::judge::judge;
 use crate::ledger::{Ledger, MAX_ANCHORS, MAX_SPENT, ROW_BYTES};
 use crate::seal::{judge_seal, Calibration, Seal};
@@ -29,6 +35,12 @@ use crate::tree::{Record, Tree};
 
 /// The longest body of an entry.
 pub const MAX_BODY_BYTES: usize = 131_072;
+
+/// The most table rows that `R` shows.
+pub const MAX_SHOWN_SPENT: usize = 2_048;
+
+/// The most roll rows that `R` shows.
+pub const MAX_SHOWN_ANCHORS: usize = 1_024;
 
 /// How many rows more than a ledger may use a tape may lend.
 pub const ROWS_BEYOND: usize = 2;
@@ -106,7 +118,10 @@ impl Player {
             b'L' => empty(body).map(|()| vec![ledger_line(&self.ledger)]),
             b'R' => empty(body).map(|()| row_lines(&self.ledger)),
             b'M' => empty(body).map(|()| vec![memory_line(&self.ledger)]),
-            b'P' => self.plant(body),
+            b'P' => self.plant(read_plant(body)),
+            b'K' => self.plant(read_keep(body)),
+            b'T' => fill(&mut self.ledger.table, body),
+            b'A' => fill(&mut self.ledger.roll, body),
             b'N' => name_line(body),
             _ => None,
         }
@@ -141,8 +156,8 @@ impl Player {
         vec![format!("block {}", self.ledger.close_block())]
     }
 
-    fn plant(&mut self, body: &[u8]) -> Option<Vec<String>> {
-        self.ledger = read_plant(body)?;
+    fn plant(&mut self, read: Option<Ledger>) -> Option<Vec<String>> {
+        self.ledger = read?;
         Some(vec![format!("plant {}", Answer::PASSED)])
     }
 }
@@ -200,12 +215,12 @@ fn ledger_line(ledger: &Ledger) -> String {
     )
 }
 
-/// The used rows, as many of them as the buffers have room for.
+/// The used rows, as many of them as the buffers have room for and a tape shows.
 fn row_lines(ledger: &Ledger) -> Vec<String> {
-    let spent = ledger.spent_rows();
-    let anchors = ledger.anchor_rows();
-    let spent = spent.iter().map(|row| format!("spent {}", hex(row)));
-    let anchors = anchors.iter().map(|row| format!("anchor {}", hex(row)));
+    let spent = ledger.spent_rows().iter().take(MAX_SHOWN_SPENT);
+    let anchors = ledger.anchor_rows().iter().take(MAX_SHOWN_ANCHORS);
+    let spent = spent.map(|row| format!("spent {}", hex(row)));
+    let anchors = anchors.map(|row| format!("anchor {}", hex(row)));
     spent.chain(anchors).collect()
 }
 
@@ -221,16 +236,30 @@ fn memory_line(ledger: &Ledger) -> String {
 /// The ledger of a `P` entry, or nothing if the lengths are wrong.
 pub fn read_plant(body: &[u8]) -> Option<Ledger> {
     let mut reader = Reader::new(body);
+    let mut ledger = read_head(&mut reader)?;
+    let lengths = [ledger.table.len(), ledger.roll.len()];
+    ledger.table = reader.run(lengths[0])?.to_vec();
+    ledger.roll = reader.run(lengths[1])?.to_vec();
+    reader.is_done().then_some(ledger)
+}
+
+/// The ledger of a `K` entry, or nothing if the lengths are wrong.
+pub fn read_keep(body: &[u8]) -> Option<Ledger> {
+    let mut reader = Reader::new(body);
+    let ledger = read_head(&mut reader)?;
+    reader.is_done().then_some(ledger)
+}
+
+/// What `P` and `K` have in common: a ledger on zeroed buffers.
+fn read_head(reader: &mut Reader) -> Option<Ledger> {
     let spent = reader.u64()?;
     let anchors = reader.u64()?;
     let pool = reader.u64()?;
-    let record = Record::read(&mut reader)?;
-    let (table_length, roll_length) = read_lengths(&mut reader)?;
-    let table = reader.run(table_length)?.to_vec();
-    let roll = reader.run(roll_length)?.to_vec();
-    reader.is_done().then_some(Ledger {
-        table,
-        roll,
+    let record = Record::read(reader)?;
+    let (table, roll) = read_lengths(reader)?;
+    Some(Ledger {
+        table: vec![0; table],
+        roll: vec![0; roll],
         spent,
         anchors,
         pool,
@@ -240,6 +269,14 @@ pub fn read_plant(body: &[u8]) -> Option<Ledger> {
 
 /// The body of a `P` entry that plants this ledger.
 pub fn plant_body(ledger: &Ledger) -> Vec<u8> {
+    let mut body = keep_body(ledger);
+    body.extend(&ledger.table);
+    body.extend(&ledger.roll);
+    body
+}
+
+/// The body of a `K` entry that plants this ledger on zeroed buffers.
+pub fn keep_body(ledger: &Ledger) -> Vec<u8> {
     let mut body = Vec::new();
     body.extend(ledger.spent.to_le_bytes());
     body.extend(ledger.anchors.to_le_bytes());
@@ -247,7 +284,72 @@ pub fn plant_body(ledger: &Ledger) -> Vec<u8> {
     body.extend(ledger.tree.record().to_bytes());
     body.extend((ledger.table.len() as u32).to_le_bytes());
     body.extend((ledger.roll.len() as u32).to_le_bytes());
-    body.extend(&ledger.table);
-    body.extend(&ledger.roll);
     body
+}
+
+/// Rows that are filled by rule.
+#[derive(Clone, Debug, PartialEq, Eq)]
+pub struct Fill {
+    /// The first of them.
+    pub first: u32,
+    /// How many they are.
+    pub rows: u32,
+    /// The number that the first begins with.
+    pub start: u64,
+    /// How much more each begins with than the one before.
+    pub step: u64,
+    /// What they all end with.
+    pub tail: [u8; 24],
+}
+
+impl Fill {
+    /// The fill of a `T` or `A` entry, or nothing if the length is wrong.
+    pub fn read(body: &[u8]) -> Option<Fill> {
+        let mut reader = Reader::new(body);
+        let fill = Fill {
+            first: reader.u32()?,
+            rows: reader.u32()?,
+            start: reader.u64()?,
+            step: reader.u64()?,
+            tail: reader.take()?,
+        };
+        reader.is_done().then_some(fill)
+    }
+
+    /// The body of a `T` or `A` entry.
+    pub fn body(&self) -> Vec<u8> {
+        let mut body = Vec::new();
+        body.extend(self.first.to_le_bytes());
+        body.extend(self.rows.to_le_bytes());
+        body.extend(self.start.to_le_bytes());
+        body.extend(self.step.to_le_bytes());
+        body.extend(self.tail);
+        body
+    }
+
+    /// What the rule gives for the row that has so many filled ones before it.
+    pub fn row(&self, before: u64) -> Bytes32 {
+        let number = self.start.wrapping_add(before.wrapping_mul(self.step));
+        let mut row = [0; ROW_BYTES];
+        row[..8].copy_from_slice(&number.to_be_bytes());
+        row[8..].copy_from_slice(&self.tail);
+        row
+    }
+
+    /// Fills rows of a buffer. Nothing, with no byte changed, if it does not
+    /// have them all.
+    fn write(&self, buffer: &mut [u8]) -> Option<()> {
+        let (rows, _) = buffer.as_chunks_mut::<ROW_BYTES>();
+        let first = self.first as usize;
+        let filled = rows.get_mut(first..first + self.rows as usize)?;
+        for (before, row) in filled.iter_mut().enumerate() {
+            *row = self.row(before as u64);
+        }
+        Some(())
+    }
+}
+
+fn fill(buffer: &mut [u8], body: &[u8]) -> Option<Vec<String>> {
+    Fill::read(body)?.write(buffer)?;
+    Some(vec![format!("fill {}", Answer::PASSED)])
 }

@@ -80,16 +80,29 @@ fn closing_a_damaged_ledger_is_refusal_2_before_3() {
 }
 
 #[test]
-fn the_roll_has_room_for_1024_rows_at_most() {
-    let (mut ledger, _) = Ledger::open(Vec::new(), vec![0; 40_000]);
-    assert_eq!(ledger.roll_room(), 1_024);
-    for _ in 1..1_024 {
+fn the_roll_has_room_for_4096_rows_at_most() {
+    let (mut ledger, _) = Ledger::open(Vec::new(), vec![0; 140_000]);
+    assert_eq!(ledger.roll_room(), 4_096);
+    for _ in 1..4_096 {
         assert_eq!(ledger.close_block(), Answer::PASSED);
     }
     assert_eq!(ledger.close_block(), Answer::new(3, 0));
-    assert_eq!(ledger.anchors, 1_024);
-    ledger.anchors = 1_025;
+    assert_eq!(ledger.anchors, 4_096);
+    ledger.anchors = 4_097;
     assert!(ledger.is_damaged());
+}
+
+#[test]
+fn a_roll_of_fewer_rows_has_room_for_those() {
+    for (bytes, rows) in [(1_024 * 32, 1_024), (131_071, 4_095), (131_072, 4_096)] {
+        let (mut ledger, _) = Ledger::open(Vec::new(), vec![0; bytes]);
+        assert_eq!(ledger.roll_room(), rows);
+        ledger.anchors = rows - 1;
+        assert_eq!(ledger.close_block(), Answer::PASSED);
+        assert_eq!(ledger.close_block(), Answer::new(3, 0));
+        ledger.anchors = rows + 1;
+        assert_eq!(ledger.close_block(), Answer::new(2, 0));
+    }
 }
 
 #[test]
@@ -124,7 +137,7 @@ fn each_used_row_of_the_table_is_found_where_it_stands() {
 #[test]
 fn a_row_past_the_count_is_not_found() {
     let mut ledger = Shift::busy(7).ledger;
-    let rows = ledger.spent_rows();
+    let rows = ledger.spent_rows().to_vec();
     let [.., before, last] = &rows[..] else {
         panic!("a ledger in use has rows");
     };

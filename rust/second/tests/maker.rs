@@ -2,21 +2,39 @@
 
 use std::cmp::Ordering;
 use std::ops::Range;
+use std::sync::OnceLock;
 
-use second::answer::{Answer, SPENT};
-use second::bytes::{Bytes32, Reader};
+use second::answer::{Answer, Row, SPENT};
+use second::bytes::{hex, Bytes32, Reader};
 use second::case::{Case, MAX_SUM};
 use second::hashes;
-use second::judge::{all_refusals, first_refusal, Rule, RULES};
+use second::judge::{all_refusals, first_refusal, judge, Rule, RULES};
 use second::ledger::{Ledger, MAX_POOL, ROW_BYTES};
 use second::maker::bends::BENDS;
-use second::maker::make_tape;
 use second::maker::tampers::TAMPERS;
+use second::maker::{make_tape, Tape};
 use second::seal::{Calibration, Gate, Seal, SEAL_BYTES};
 use second::tape::{play, read_plant, Player};
-use second::tree::climb;
+use second::tree::{climb, parent, root_of_leaves, Record};
 
 const SEEDS: [u64; 3] = [1, 2, 0xffff_ffff_ffff_ffff];
+
+/// The tapes of three seeds, which are made once for all tests.
+type Tapes = std::iter::Zip<std::array::IntoIter<u64, 3>, std::slice::Iter<'static, Tape>>;
+
+/// Those of 600 entries, each with its seed.
+fn tapes() -> Tapes {
+    static TAPES: OnceLock<[Tape; 3]> = OnceLock::new();
+    let made = TAPES.get_or_init(|| SEEDS.map(|seed| make_tape(seed, 600)));
+    SEEDS.into_iter().zip(made)
+}
+
+/// Those of 700 entries, each with its seed.
+fn long_tapes() -> Tapes {
+    static TAPES: OnceLock<[Tape; 3]> = OnceLock::new();
+    let made = TAPES.get_or_init(|| SEEDS.map(|seed| make_tape(seed, 700)));
+    SEEDS.into_iter().zip(made)
+}
 
 /// Every answer that a tape of 600 entries must give.
 fn wanted_answers() -> Vec<(&'static str, Answer)> {
@@ -35,8 +53,7 @@ fn wanted_answers() -> Vec<(&'static str, Answer)> {
 
 #[test]
 fn a_tape_of_600_entries_reaches_everything_in_2500_kilobytes() {
-    for seed in SEEDS {
-        let tape = make_tape(seed, 600);
+    for (seed, tape) in tapes() {
         assert!(tape.bytes.len() < 2_500_000, "seed {seed}");
         for (kind, answer) in wanted_answers() {
             let times = tape.coverage.times(kind, answer);
@@ -57,8 +74,7 @@ fn a_tape_of_600_entries_reaches_everything_in_2500_kilobytes() {
 #[test]
 fn neighbours_in_the_table_are_tried_against_each_other() {
     let answers: Vec<Answer> = RULES[2..].iter().map(|rule| rule.answer).collect();
-    for seed in SEEDS {
-        let tape = make_tape(seed, 600);
+    for (seed, tape) in tapes() {
         for pair in answers.windows(2) {
             if pair[0].number == 5 && pair[1].number == 5 {
                 continue;
@@ -84,11 +100,20 @@ fn entries(mut tape: &[u8]) -> Vec<(u8, &[u8])> {
     entries
 }
 
+/// The entries of a tape before the runs for depots, whose tables are long.
+fn before_depots(tape: &[u8]) -> Vec<(u8, &[u8])> {
+    let mut entries = entries(tape);
+    let name = DEPOT_RUNS[0].0.as_bytes();
+    let depots = entries.iter().position(|entry| *entry == (b'N', name));
+    entries.truncate(depots.unwrap_or(entries.len()));
+    entries
+}
+
 /// For each case of a right length on a tape, which rules apply to it.
 fn applying_rules(tape: &[u8]) -> Vec<Vec<bool>> {
     let mut player = Player::new();
     let mut applying = Vec::new();
-    for (kind, body) in entries(tape) {
+    for (kind, body) in before_depots(tape) {
         if let (b'C', Some(case)) = (kind, Case::read(body)) {
             let applies = |rule: &Rule| (rule.applies)(&player.ledger, &case);
             applying.push(RULES.iter().map(applies).collect());
@@ -108,8 +133,8 @@ fn first_of(order: &[usize], applies: &[bool]) -> Option<usize> {
 #[test]
 fn a_tape_tells_judges_that_drop_or_swap_a_rule() {
     let right: Vec<usize> = (0..RULES.len()).collect();
-    for seed in SEEDS {
-        let applying = applying_rules(&make_tape(seed, 600).bytes);
+    for (_, tape) in tapes() {
+        let applying = applying_rules(&tape.bytes);
         let is_told = |order: &[usize]| {
             let differs =
                 |applies: &Vec<bool>| first_of(order, applies) != first_of(&right, applies);
@@ -141,16 +166,16 @@ const COMPARING: [(u8, u8, Partly); 17] = [
         seen_partly(ledger, seen).is_damaged()
     }),
     (6, 0, |ledger, case, seen| {
-        !has(&ledger.anchor_rows(), &case.anchor, seen)
+        !has(ledger.anchor_rows(), &case.anchor, seen)
     }),
     (7, 0, |_, case, seen| {
         has(&case.nullifiers[..1], &case.nullifiers[1], seen)
     }),
     (8, 1, |ledger, case, seen| {
-        has(&ledger.spent_rows(), &case.nullifiers[0], seen)
+        has(ledger.spent_rows(), &case.nullifiers[0], seen)
     }),
     (8, 2, |ledger, case, seen| {
-        has(&ledger.spent_rows(), &case.nullifiers[1], seen)
+        has(ledger.spent_rows(), &case.nullifiers[1], seen)
     }),
     (10, 1, |_, case, seen| path_fails(case, 0, seen)),
     (10, 2, |_, case, seen| path_fails(case, 1, seen)),
@@ -219,7 +244,7 @@ fn commitment_is_wrong(case: &Case, which: usize, seen: Range<usize>) -> bool {
 fn judged_cases(tape: &[u8]) -> Vec<(Ledger, Case)> {
     let mut player = Player::new();
     let mut judged = Vec::new();
-    for (kind, body) in entries(tape) {
+    for (kind, body) in before_depots(tape) {
         if let (b'C', Some(case)) = (kind, Case::read(body)) {
             judged.push((player.ledger.clone(), case));
         }
@@ -252,8 +277,8 @@ fn is_found(
 
 #[test]
 fn a_tape_finds_judges_that_compare_one_byte_too_few() {
-    for seed in SEEDS {
-        let judged = judged_cases(&make_tape(seed, 600).bytes);
+    for (seed, tape) in tapes() {
+        let judged = judged_cases(&tape.bytes);
         for (number, place, partly) in COMPARING {
             let answer = Answer::new(number, place);
             let found = |seen: Range<usize>| {
@@ -270,8 +295,8 @@ fn a_tape_finds_judges_that_compare_one_byte_too_few() {
 
 #[test]
 fn a_tape_finds_judges_that_leave_out_one_of_a_key_s_top_bits() {
-    for seed in SEEDS {
-        let judged = judged_cases(&make_tape(seed, 600).bytes);
+    for (_, tape) in tapes() {
+        let judged = judged_cases(&tape.bytes);
         for left_out in [0x80, 0x40, 0x20, 0x10] {
             let has_top_bits = |key: &Bytes32| key[0] & (0xf0 ^ left_out) != 0;
             for which in 0..2 {
@@ -293,7 +318,7 @@ fn a_tape_finds_judges_that_leave_out_one_of_a_key_s_top_bits() {
 fn ledgers_before(tape: &[u8], kinds: &[u8]) -> Vec<Ledger> {
     let mut player = Player::new();
     let mut found = Vec::new();
-    for (kind, body) in entries(tape) {
+    for (kind, body) in before_depots(tape) {
         if kinds.contains(&kind) {
             found.push(player.ledger.clone());
         }
@@ -338,8 +363,8 @@ const WRONG_OPENINGS: [(&str, Opening); 9] = [
 
 #[test]
 fn a_tape_finds_openings_that_write_too_much() {
-    for seed in SEEDS {
-        let opened = ledgers_before(&make_tape(seed, 600).bytes, b"F");
+    for (seed, tape) in tapes() {
+        let opened = ledgers_before(&tape.bytes, b"F");
         for (name, change) in WRONG_OPENINGS {
             let is_found = opened.iter().any(|before| {
                 let (right, _) = Ledger::open(before.table.clone(), before.roll.clone());
@@ -365,7 +390,9 @@ fn rows_that_decide(tape: &[u8]) -> Vec<Vec<Bytes32>> {
     };
     let ledgers = ledgers_before(tape, b"BC");
     let deciding = ledgers.iter().filter(is_sound_besides);
-    deciding.map(Ledger::spent_rows).collect()
+    deciding
+        .map(|ledger| ledger.spent_rows().to_vec())
+        .collect()
 }
 
 /// Whether rows rise once each is seen in another way.
@@ -375,8 +402,8 @@ fn rise_by<T: PartialOrd>(rows: &[Bytes32], seen: impl Fn(&Bytes32) -> T) -> boo
 
 #[test]
 fn a_tape_finds_walks_that_compare_rows_otherwise() {
-    for seed in SEEDS {
-        let tables = rows_that_decide(&make_tape(seed, 600).bytes);
+    for (_, tape) in tapes() {
+        let tables = rows_that_decide(&tape.bytes);
         let is_found = |wrong: &dyn Fn(&[Bytes32]) -> bool| {
             let differs = |rows: &Vec<Bytes32>| wrong(rows) != rise_by(rows, |row| *row);
             tables.iter().any(differs)
@@ -419,8 +446,8 @@ fn without_carry(amounts: [u64; 3]) -> (u64, u64) {
 
 #[test]
 fn a_tape_finds_sums_that_are_compared_in_part() {
-    for seed in SEEDS {
-        let judged = judged_cases(&make_tape(seed, 600).bytes);
+    for (seed, tape) in tapes() {
+        let judged = judged_cases(&tape.bytes);
         let found = |differ: fn(&Case) -> bool| {
             is_found(&judged, Answer::new(11, 0), |_, case| {
                 differ(case) || case.value_in() > MAX_SUM
@@ -470,8 +497,8 @@ const CEILINGS: [(&str, fn(&Case) -> bool); 7] = [
 
 #[test]
 fn a_tape_finds_wrong_ceilings_of_the_balance() {
-    for seed in SEEDS {
-        let judged = judged_cases(&make_tape(seed, 600).bytes);
+    for (seed, tape) in tapes() {
+        let judged = judged_cases(&tape.bytes);
         let found = |is_above: fn(&Case) -> bool| {
             is_found(&judged, Answer::new(11, 0), |_, case| {
                 case.value_in() != case.value_out() || is_above(case)
@@ -486,8 +513,8 @@ fn a_tape_finds_wrong_ceilings_of_the_balance() {
 
 #[test]
 fn a_tape_finds_a_ceiling_that_is_asked_too_early_or_too_late() {
-    for seed in SEEDS {
-        let judged = judged_cases(&make_tape(seed, 600).bytes);
+    for (seed, tape) in tapes() {
+        let judged = judged_cases(&tape.bytes);
         let mut above = judged
             .iter()
             .filter(|(_, case)| case.value_in() == case.value_out() && case.value_in() > MAX_SUM)
@@ -600,7 +627,7 @@ fn searched_cases(tape: &[u8]) -> Vec<Searched> {
         let answer = first_refusal(&ledger, &case);
         if answer.is_none_or(|answer| answer.number >= 8) {
             searched.push(Searched {
-                rows: ledger.spent_rows(),
+                rows: ledger.spent_rows().to_vec(),
                 nullifiers: case.nullifiers,
                 is_entered: answer.is_none(),
             });
@@ -635,8 +662,8 @@ impl Searched {
 
 #[test]
 fn a_long_tape_finds_searches_that_go_wrong() {
-    for seed in SEEDS {
-        let searched = searched_cases(&make_tape(seed, 700).bytes);
+    for (seed, tape) in long_tapes() {
+        let searched = searched_cases(&tape.bytes);
         let found = |halving: &Halving| {
             let search = |rows: &[Bytes32], row: &Bytes32| halving.search(rows, row);
             searched.iter().any(|case| case.tells(&search))
@@ -650,8 +677,8 @@ fn a_long_tape_finds_searches_that_go_wrong() {
 
 #[test]
 fn a_long_tape_finds_gaps_that_are_one_off_at_either_end() {
-    for seed in SEEDS {
-        let searched = searched_cases(&make_tape(seed, 700).bytes);
+    for (seed, tape) in long_tapes() {
+        let searched = searched_cases(&tape.bytes);
         let found = |moved: fn(usize, usize) -> usize| {
             let search = |rows: &[Bytes32], row: &Bytes32| {
                 rows.binary_search(row)
@@ -673,8 +700,8 @@ fn a_long_tape_finds_gaps_that_are_one_off_at_either_end() {
 
 #[test]
 fn a_long_tape_finds_searches_by_another_order() {
-    for seed in SEEDS {
-        let searched = searched_cases(&make_tape(seed, 700).bytes);
+    for (seed, tape) in long_tapes() {
+        let searched = searched_cases(&tape.bytes);
         for byte in 0..ROW_BYTES {
             let without = |row: &Bytes32| [&row[..byte], &row[byte + 1..]].concat();
             assert!(finds_order(&searched, without), "{seed}: without {byte}");
@@ -700,7 +727,7 @@ fn finds_order<T: Ord>(searched: &[Searched], seen: impl Fn(&Bytes32) -> T) -> b
 /// The runs for the row of a spent nullifier: what their cases are answered.
 const ROW_RUNS: [(&str, &[&str]); 11] = [
     ("spent-in-row-2045", &["case 8 1", "row 2045"]),
-    ("spent-in-a-full-table", &["case 3 0"]),
+    ("spent-in-a-full-table", &["case 0 0", "case 3 0"]),
     (
         "spent-in-first-row",
         &["case 8 1", "row 0", "case 8 2", "row 0"],
@@ -739,18 +766,18 @@ fn case_lines<'a>(lines: &'a [String], run: &str) -> Vec<&'a str> {
 
 #[test]
 fn a_tape_of_600_entries_shows_the_rows_of_its_row_runs() {
-    for seed in SEEDS {
-        let lines = make_tape(seed, 600).lines;
+    for (seed, tape) in tapes() {
+        let lines = &tape.lines;
         for (run, expected) in ROW_RUNS {
-            assert_eq!(case_lines(&lines, run), expected, "seed {seed}: {run}");
+            assert_eq!(case_lines(lines, run), expected, "seed {seed}: {run}");
         }
     }
 }
 
 #[test]
 fn a_row_stands_behind_each_case_that_is_refused_as_spent_and_nowhere_else() {
-    for seed in SEEDS {
-        let lines = make_tape(seed, 600).lines;
+    for (_, tape) in tapes() {
+        let lines = &tape.lines;
         for pair in lines.windows(2) {
             let is_spent = pair[0].starts_with("case 8 ");
             assert_eq!(pair[1].starts_with("row "), is_spent, "{pair:?}");
@@ -778,15 +805,15 @@ struct Refused {
 fn refused_as_spent(tape: &[u8]) -> Vec<Refused> {
     let mut player = Player::new();
     let (mut run, mut arrived, mut refused) = (String::new(), Vec::new(), Vec::new());
-    for (kind, body) in entries(tape) {
-        let rows = player.ledger.spent_rows();
+    for (kind, body) in before_depots(tape) {
+        let rows = player.ledger.spent_rows().to_vec();
         let room = player.ledger.table_room() as usize;
         let Some(lines) = player.play(kind, body) else {
             break;
         };
         match (kind, lines.first().map(String::as_str)) {
             (b'N', Some(name)) => run = name["run ".len()..].to_owned(),
-            (b'O' | b'F' | b'P', _) => arrived = player.ledger.spent_rows(),
+            (b'O' | b'F' | b'P' | b'T', _) => arrived = player.ledger.spent_rows().to_vec(),
             (b'C', Some("case 0 0")) => arrived.extend(nullifiers_of(body)),
             (b'C', Some(line)) if line.starts_with("case 8 ") => refused.push(Refused {
                 run: run.clone(),
@@ -902,8 +929,8 @@ const WRONG_ROWS: [(&str, WrongRow); 21] = [
 
 #[test]
 fn the_row_runs_of_a_tape_find_rows_that_are_wrong() {
-    for seed in SEEDS {
-        let mut refused = refused_as_spent(&make_tape(seed, 600).bytes);
+    for (seed, tape) in tapes() {
+        let mut refused = refused_as_spent(&tape.bytes);
         let is_right = |case: &Refused| case.rows[case.row] == *case.named();
         assert!(refused.iter().all(is_right), "seed {seed}: the right one");
         refused.retain(|case| ROW_RUNS.iter().any(|(run, _)| *run == case.run));
@@ -927,8 +954,8 @@ fn leaked_row(ledger: &Ledger, case: &Case) -> usize {
 
 #[test]
 fn a_tape_finds_rows_that_go_with_another_answer() {
-    for seed in SEEDS {
-        let judged = judged_cases(&make_tape(seed, 600).bytes);
+    for (seed, tape) in tapes() {
+        let judged = judged_cases(&tape.bytes);
         for number in (0..=17).filter(|number| ![1, SPENT].contains(number)) {
             let leaks = |(ledger, case): &(Ledger, Case)| {
                 let refusal = first_refusal(ledger, case).unwrap_or(Answer::PASSED);
@@ -942,8 +969,8 @@ fn a_tape_finds_rows_that_go_with_another_answer() {
 
 #[test]
 fn a_tape_has_a_spent_nullifier_s_row_that_refusals_3_and_7_do_not_tell() {
-    for seed in SEEDS {
-        let judged = judged_cases(&make_tape(seed, 600).bytes);
+    for (seed, tape) in tapes() {
+        let judged = judged_cases(&tape.bytes);
         for number in [3, 7] {
             let hides_a_row = |(ledger, case): &(Ledger, Case)| {
                 let refusal = first_refusal(ledger, case);
@@ -958,8 +985,7 @@ fn a_tape_has_a_spent_nullifier_s_row_that_refusals_3_and_7_do_not_tell() {
 
 #[test]
 fn a_long_tape_names_the_row_that_each_of_its_row_searches_planted() {
-    for seed in SEEDS {
-        let tape = make_tape(seed, 700);
+    for (seed, tape) in long_tapes() {
         let mut searches = 0;
         for case in refused_as_spent(&tape.bytes) {
             let planted = case.run.strip_prefix("row-").and_then(|rest| {
@@ -1045,10 +1071,10 @@ fn said_of_pool(line: &str) -> Option<String> {
 
 #[test]
 fn a_tape_of_600_entries_shows_the_pools_of_its_pool_runs() {
-    for seed in SEEDS {
-        let lines = make_tape(seed, 600).lines;
+    for (seed, tape) in tapes() {
+        let lines = &tape.lines;
         for (run, expected) in POOL_RUNS {
-            let said: Vec<String> = lines_of(&lines, run).filter_map(said_of_pool).collect();
+            let said: Vec<String> = lines_of(lines, run).filter_map(said_of_pool).collect();
             assert_eq!(said, expected, "seed {seed}: {run}");
         }
     }
@@ -1056,11 +1082,11 @@ fn a_tape_of_600_entries_shows_the_pools_of_its_pool_runs() {
 
 #[test]
 fn in_either_order_the_pool_runs_that_pass_leave_the_same_table_and_roll() {
-    for seed in SEEDS {
-        let lines = make_tape(seed, 600).lines;
+    for (seed, tape) in tapes() {
+        let lines = &tape.lines;
         let [one, other] = ["pool-order-met-c-d", "pool-order-met-d-c"].map(|run| {
             let is_memory = |line: &&str| line.starts_with("memory ");
-            let memory = lines_of(&lines, run).filter(is_memory).last();
+            let memory = lines_of(lines, run).filter(is_memory).last();
             let words = memory.expect("a look at the memory").split(' ');
             words.map(str::to_owned).collect::<Vec<String>>()
         });
@@ -1074,7 +1100,7 @@ fn in_either_order_the_pool_runs_that_pass_leave_the_same_table_and_roll() {
 fn asked_in_pool_runs(tape: &[u8]) -> Vec<(Ledger, Option<Case>)> {
     let mut player = Player::new();
     let (mut is_pool_run, mut asked) = (false, Vec::new());
-    for (kind, body) in entries(tape) {
+    for (kind, body) in before_depots(tape) {
         if kind == b'N' {
             is_pool_run = POOL_RUNS.iter().any(|(run, _)| run.as_bytes() == body);
         }
@@ -1138,8 +1164,8 @@ const WRONG_BOUNDS: [(&str, WrongBounds); 14] = [
 
 #[test]
 fn the_pool_runs_of_a_tape_find_bounds_that_are_wrong() {
-    for seed in SEEDS {
-        let asked = asked_in_pool_runs(&make_tape(seed, 600).bytes);
+    for (seed, tape) in tapes() {
+        let asked = asked_in_pool_runs(&tape.bytes);
         let judged: Vec<(Ledger, Case)> = asked
             .into_iter()
             .filter_map(|(ledger, case)| Some((ledger, case?)))
@@ -1161,8 +1187,8 @@ fn the_pool_runs_of_a_tape_find_bounds_that_are_wrong() {
 fn the_pool_runs_of_a_tape_find_a_17_that_is_asked_too_early() {
     let last = RULES.len() - 1;
     assert_eq!(RULES[last].answer, Answer::new(17, 0));
-    for seed in SEEDS {
-        let asked = asked_in_pool_runs(&make_tape(seed, 600).bytes);
+    for (seed, tape) in tapes() {
+        let asked = asked_in_pool_runs(&tape.bytes);
         for (index, rule) in RULES[..last].iter().enumerate() {
             let is_told = asked.iter().any(|(ledger, case)| {
                 let Some(case) = case else { return false };
@@ -1203,8 +1229,8 @@ const WRONG_DAMAGES: [(&str, WrongDamage); 8] = [
 
 #[test]
 fn the_pool_runs_of_a_tape_find_pools_that_are_wrongly_taken_for_damage_or_not() {
-    for seed in SEEDS {
-        let asked = asked_in_pool_runs(&make_tape(seed, 600).bytes);
+    for (seed, tape) in tapes() {
+        let asked = asked_in_pool_runs(&tape.bytes);
         let found = |wrong: WrongDamage| {
             asked.iter().any(|(ledger, _)| {
                 let mut without_pool = ledger.clone();
@@ -1216,6 +1242,605 @@ fn the_pool_runs_of_a_tape_find_pools_that_are_wrongly_taken_for_damage_or_not()
         assert!(!found(|ledger| ledger.pool > MAX_POOL), "the right way");
         for (name, wrong) in WRONG_DAMAGES {
             assert!(found(wrong), "seed {seed}: a pool that {name}");
+        }
+    }
+}
+
+/// The runs for depots: what their cases and closings are answered.
+const DEPOT_RUNS: [(&str, &[&str]); 39] = [
+    ("depot-65534-has-room", &["case 0 0", "case 3 0"]),
+    ("depot-room-in-a-longer-table", &["case 0 0", "case 3 0"]),
+    ("depot-65536-has-none", &["case 3 0", "block 0 0"]),
+    ("depot-65536-in-a-longer-table", &["case 3 0", "block 0 0"]),
+    ("depot-65534-one-row-short", &["case 3 0", "block 0 0"]),
+    ("depot-65534-one-byte-short", &["case 3 0", "block 0 0"]),
+    ("depot-65536-in-65535-rows", &["case 2 0", "block 2 0"]),
+    ("depot-65537-is-damage", &["case 2 0", "block 2 0"]),
+    ("depot-65538-is-damage", &["case 2 0", "block 2 0"]),
+    (
+        "depot-2048-in-2050-rows",
+        &["case 0 0", "case 3 0", "block 0 0"],
+    ),
+    ("depot-2050-in-2052-rows", &["block 0 0", "case 0 0"]),
+    (
+        "depot-1024-anchors-in-1026-rows",
+        &["block 0 0", "block 0 0", "block 3 0"],
+    ),
+    ("depot-1025-anchors", &["case 0 0", "block 0 0"]),
+    ("depot-4095-anchors", &["block 0 0", "block 3 0"]),
+    (
+        "depot-4095-anchors-in-a-longer-roll",
+        &["block 0 0", "block 3 0"],
+    ),
+    ("depot-4095-anchors-one-byte-short", &["block 3 0"]),
+    ("depot-4096-anchors", &["block 3 0", "case 0 0"]),
+    ("depot-4096-anchors-in-a-longer-roll", &["block 3 0"]),
+    (
+        "depot-4096-anchors-in-4095-rows",
+        &["block 2 0", "case 2 0"],
+    ),
+    ("depot-4097-anchors", &["block 2 0", "case 2 0"]),
+    ("depot-anchor-in-roll-row-4095", &["case 0 0"]),
+    ("depot-anchor-past-the-roll", &["case 6 0"]),
+    ("depot-below-all-rows", &["case 0 0"]),
+    ("depot-above-all-rows", &["case 0 0"]),
+    (
+        "depot-spent-in-row-0",
+        &["case 8 1", "row 0", "case 8 2", "row 0"],
+    ),
+    ("depot-beside-row-0", &["case 0 0"]),
+    (
+        "depot-spent-in-row-32767",
+        &["case 8 1", "row 32767", "case 8 2", "row 32767"],
+    ),
+    ("depot-beside-row-32767", &["case 0 0"]),
+    (
+        "depot-spent-in-row-32768",
+        &["case 8 1", "row 32768", "case 8 2", "row 32768"],
+    ),
+    ("depot-beside-row-32768", &["case 0 0"]),
+    (
+        "depot-spent-in-row-65533",
+        &["case 8 1", "row 65533", "case 8 2", "row 65533"],
+    ),
+    ("depot-beside-row-65533", &["case 0 0"]),
+    ("depot-last-pair-equal", &["block 2 0"]),
+    ("depot-last-pair-falls", &["block 2 0", "case 2 0"]),
+    ("depot-middle-pair-falls", &["block 2 0"]),
+    (
+        "depot-pair-past-the-used-falls",
+        &["block 0 0", "block 0 0"],
+    ),
+    ("depot-full-pair-0-falls", &["case 2 0", "block 2 0"]),
+    ("depot-full-pair-65533-falls", &["case 2 0", "block 2 0"]),
+    ("depot-full-pair-65534-falls", &["case 2 0", "block 2 0"]),
+];
+
+/// The lines of a run that are answers to cases and closings, rows among them.
+fn answers_of<'a>(lines: &'a [String], run: &str) -> Vec<&'a str> {
+    let is_answer = |line: &&str| {
+        ["case ", "row ", "block "]
+            .iter()
+            .any(|w| line.starts_with(w))
+    };
+    lines_of(lines, run).filter(is_answer).collect()
+}
+
+#[test]
+fn a_tape_of_600_entries_shows_the_answers_of_its_depot_runs() {
+    for (seed, tape) in tapes() {
+        for (run, expected) in DEPOT_RUNS {
+            assert_eq!(answers_of(&tape.lines, run), expected, "seed {seed}: {run}");
+        }
+    }
+}
+
+#[test]
+fn each_pair_of_a_short_table_is_walked_over() {
+    for (seed, tape) in tapes() {
+        for rows in [2, 4, 6, 8, 10, 12, 18, 20, 26] {
+            let run = format!("walk-of-{rows}-rows");
+            let mut expected = vec!["block 0 0"];
+            for _ in 1..rows {
+                expected.extend(["block 0 0", "block 2 0", "block 2 0", "block 2 0"]);
+            }
+            expected.push("block 0 0");
+            assert_eq!(
+                answers_of(&tape.lines, &run),
+                expected,
+                "seed {seed}: {run}"
+            );
+        }
+    }
+}
+
+#[test]
+fn a_long_tape_has_a_look_at_more_rows_than_are_shown() {
+    for (seed, tape) in long_tapes() {
+        let lines: Vec<&str> = lines_of(&tape.lines, "more-rows-than-shown").collect();
+        for (word, shown) in [("spent ", 2_048), ("anchor ", 1_024)] {
+            let of_word = lines.iter().filter(|line| line.starts_with(word));
+            assert_eq!(of_word.count(), shown, "seed {seed}: {word}");
+        }
+    }
+}
+
+#[test]
+fn a_tape_of_600_entries_has_a_dozen_looks_at_long_tables_at_most() {
+    for (seed, tape) in tapes() {
+        let mut player = Player::new();
+        let mut looks = 0;
+        for (kind, body) in entries(&tape.bytes) {
+            looks += usize::from(kind == b'M' && player.ledger.table.len() > 100_000);
+            // A look itself changes nothing.
+            if kind != b'M' && player.play(kind, body).is_none() {
+                break;
+            }
+        }
+        assert!((6..=12).contains(&looks), "seed {seed}: {looks}");
+    }
+}
+
+/// What is asked of a depot: a case or a closing.
+struct Asked<'a> {
+    ledger: &'a Ledger,
+    /// The case, with what the rules say of it that do not look at the ledger's
+    /// rows.
+    case: Option<(Case, Answer)>,
+}
+
+impl Asked<'_> {
+    fn new<'a>(ledger: &'a Ledger, case: Option<Case>) -> Asked<'a> {
+        let judged = case.map(|case| {
+            let mut rest = RULES
+                .iter()
+                .filter(|r| ![2, 3, 6, 8].contains(&r.answer.number));
+            let refusal = rest.find(|rule| (rule.applies)(ledger, &case));
+            let answer = refusal.map_or(Answer::PASSED, |rule| rule.answer);
+            (case, answer)
+        });
+        Asked {
+            ledger,
+            case: judged,
+        }
+    }
+}
+
+/// A judge with limits and ways of its own, right or wrong.
+#[derive(Clone, Copy)]
+struct Depots {
+    /// The table's limit, in damage and in room, and the roll's, in damage and in
+    /// closing.
+    limits: [usize; 4],
+    /// Rows of so many bytes.
+    lent: fn(usize) -> usize,
+    /// How many rows are looked at for damage where so many are used, and whether
+    /// they rise.
+    walked: fn(usize) -> usize,
+    rises: fn(&[Bytes32]) -> bool,
+    /// In how many rows of the roll an anchor is looked for, and in how many of
+    /// the table a nullifier.
+    anchors: fn(usize) -> usize,
+    spent: fn(usize) -> usize,
+    /// The row that is named.
+    named: fn(usize) -> usize,
+}
+
+const RIGHT_DEPOTS: Depots = Depots {
+    limits: [65_536, 65_536, 4_096, 4_096],
+    lent: |bytes| bytes / ROW_BYTES,
+    walked: |used| used,
+    rises: |rows| rise_where(rows, |_, _| true),
+    anchors: |used| used,
+    spent: |used| used,
+    named: |row| row,
+};
+
+/// Whether those pairs of rows rise that are looked at, by their number and by how
+/// many there are.
+fn rise_where(rows: &[Bytes32], is_looked_at: impl Fn(usize, usize) -> bool) -> bool {
+    let pairs = rows.len().saturating_sub(1);
+    (0..pairs).all(|pair| !is_looked_at(pair, pairs) || rows[pair] < rows[pair + 1])
+}
+
+/// The first rows of a buffer, no more than it has.
+fn first_rows(buffer: &[u8], rows: usize) -> &[Bytes32] {
+    let (whole, _) = buffer.as_chunks::<ROW_BYTES>();
+    &whole[..rows.min(whole.len())]
+}
+
+impl Depots {
+    /// Rows that there is room for, by one of the limits.
+    fn room(&self, buffer: &[u8], limit: usize) -> u64 {
+        (self.lent)(buffer.len()).min(self.limits[limit]) as u64
+    }
+
+    fn is_damaged(&self, ledger: &Ledger) -> bool {
+        let walked = (self.walked)(ledger.spent as usize);
+        !ledger.spent.is_multiple_of(2)
+            || ledger.spent > self.room(&ledger.table, 0)
+            || u64::from(ledger.tree.count()) != ledger.spent
+            || ledger.anchors == 0
+            || ledger.anchors > self.room(&ledger.roll, 2)
+            || ledger.pool > MAX_POOL
+            || !(self.rises)(first_rows(&ledger.table, walked))
+    }
+
+    fn answer(&self, asked: &Asked) -> Answer {
+        let ledger = asked.ledger;
+        if self.is_damaged(ledger) {
+            return Answer::new(2, 0);
+        }
+        match &asked.case {
+            Some((case, rest)) => self.judge(ledger, case, *rest),
+            None if ledger.anchors >= self.room(&ledger.roll, 3) => Answer::new(3, 0),
+            None => Answer::PASSED,
+        }
+    }
+
+    fn judge(&self, ledger: &Ledger, case: &Case, rest: Answer) -> Answer {
+        if ledger.spent + 2 > self.room(&ledger.table, 1) {
+            return Answer::new(3, 0);
+        }
+        let anchors = (self.anchors)(ledger.anchors as usize);
+        if !first_rows(&ledger.roll, anchors).contains(&case.anchor) {
+            return Answer::new(6, 0);
+        }
+        let rows = first_rows(&ledger.table, (self.spent)(ledger.spent as usize));
+        for (nullifier, place) in case.nullifiers.iter().zip([1, 2]) {
+            if let Ok(row) = rows.binary_search(nullifier) {
+                return Answer::spent(place, Row((self.named)(row) as u64));
+            }
+        }
+        rest
+    }
+}
+
+/// A judge that has another limit in one place.
+const fn limited(place: usize, limit: usize) -> Depots {
+    let mut limits = RIGHT_DEPOTS.limits;
+    limits[place] = limit;
+    Depots {
+        limits,
+        ..RIGHT_DEPOTS
+    }
+}
+
+/// Judges whose limits are wrong, each with its name.
+const WRONG_LIMITS: [(&str, Depots); 20] = [
+    ("has 2,048 in damage", limited(0, 2_048)),
+    ("has 65,534 in damage", limited(0, 65_534)),
+    ("has 65,535 in damage", limited(0, 65_535)),
+    ("has 65,538 in damage", limited(0, 65_538)),
+    ("has none for nullifiers in damage", limited(0, usize::MAX)),
+    ("has 2,048 in room", limited(1, 2_048)),
+    ("has 65,534 in room", limited(1, 65_534)),
+    ("has 65,535 in room", limited(1, 65_535)),
+    ("has 65,538 in room", limited(1, 65_538)),
+    ("has none in room", limited(1, usize::MAX)),
+    ("has 1,024 in damage", limited(2, 1_024)),
+    ("has 4,095 in damage", limited(2, 4_095)),
+    ("has 4,097 in damage", limited(2, 4_097)),
+    ("has none for anchors in damage", limited(2, usize::MAX)),
+    ("has 1,024 in closing", limited(3, 1_024)),
+    ("has 4,095 in closing", limited(3, 4_095)),
+    ("has 4,097 in closing", limited(3, 4_097)),
+    ("has none in closing", limited(3, usize::MAX)),
+    (
+        "counts rows that are only begun",
+        Depots {
+            lent: |bytes| bytes.div_ceil(ROW_BYTES),
+            ..RIGHT_DEPOTS
+        },
+    ),
+    (
+        "counts lent rows in 16 bits",
+        Depots {
+            lent: |bytes| (bytes / ROW_BYTES) & 0xffff,
+            ..RIGHT_DEPOTS
+        },
+    ),
+];
+
+/// A judge that walks over so many of the used rows.
+const fn walking(walked: fn(usize) -> usize) -> Depots {
+    Depots {
+        walked,
+        ..RIGHT_DEPOTS
+    }
+}
+
+/// A judge that takes rows to rise by another look at them.
+const fn seeing(rises: fn(&[Bytes32]) -> bool) -> Depots {
+    Depots {
+        rises,
+        ..RIGHT_DEPOTS
+    }
+}
+
+/// Whether rows rise but for one pair of each eight.
+fn leave_out<const PAIR: usize>(rows: &[Bytes32]) -> bool {
+    rise_where(rows, |pair, _| pair % 8 != PAIR)
+}
+
+/// Judges that look for damage in a wrong way, each with its name.
+const WRONG_WALKS: [(&str, Depots); 17] = [
+    ("counts used rows in 16 bits", walking(|used| used & 0xffff)),
+    ("walks over 2,048 rows", walking(|used| used.min(2_048))),
+    ("walks over 32,768 rows", walking(|used| used.min(32_768))),
+    (
+        "walks over all rows but the last",
+        walking(|used| used.max(1) - 1),
+    ),
+    ("walks one row too far", walking(|used| used + 1)),
+    (
+        "leaves out the first pair of a turn",
+        seeing(leave_out::<0>),
+    ),
+    (
+        "leaves out the second pair of a turn",
+        seeing(leave_out::<1>),
+    ),
+    (
+        "leaves out the third pair of a turn",
+        seeing(leave_out::<2>),
+    ),
+    (
+        "leaves out the fourth pair of a turn",
+        seeing(leave_out::<3>),
+    ),
+    (
+        "leaves out the fifth pair of a turn",
+        seeing(leave_out::<4>),
+    ),
+    (
+        "leaves out the sixth pair of a turn",
+        seeing(leave_out::<5>),
+    ),
+    (
+        "leaves out the seventh pair of a turn",
+        seeing(leave_out::<6>),
+    ),
+    (
+        "leaves out the eighth pair of a turn",
+        seeing(leave_out::<7>),
+    ),
+    (
+        "stops at the last whole turn",
+        seeing(|rows| rise_where(rows, |pair, pairs| pair < pairs / 8 * 8)),
+    ),
+    (
+        "looks only at what follows the whole turns",
+        seeing(|rows| rise_where(rows, |pair, pairs| pair >= pairs / 8 * 8)),
+    ),
+    (
+        "takes equal first words for rising",
+        seeing(|rows| rows.windows(2).all(|pair| pair[0][..8] <= pair[1][..8])),
+    ),
+    (
+        "takes equal first words for falling",
+        seeing(|rows| rise_by(rows, u64_of)),
+    ),
+];
+
+/// The number that a row begins with.
+fn u64_of(row: &Bytes32) -> u64 {
+    row[..8]
+        .iter()
+        .fold(0, |number, byte| number << 8 | u64::from(*byte))
+}
+
+/// Judges that look for anchors or nullifiers in the wrong rows, or name the wrong
+/// one, each with its name.
+const WRONG_LOOKS: [(&str, Depots); 9] = [
+    (
+        "looks at 1,024 anchors",
+        looking(|used| used.min(1_024), |used| used),
+    ),
+    (
+        "leaves out the last anchor",
+        looking(|used| used - 1, |used| used),
+    ),
+    (
+        "takes an anchor past the roll",
+        looking(|used| used + 1, |used| used),
+    ),
+    (
+        "looks for a nullifier in 2,048 rows",
+        looking(|used| used, |used| used.min(2_048)),
+    ),
+    (
+        "looks for a nullifier in 32,768 rows",
+        looking(|used| used, |used| used.min(32_768)),
+    ),
+    (
+        "looks for a nullifier in all rows but the last",
+        looking(|used| used, |used| used.max(1) - 1),
+    ),
+    ("names a row of 11 bits", naming(|row| row & 0x7ff)),
+    ("names a row of 15 bits", naming(|row| row & 0x7fff)),
+    ("names a signed row", naming(|row| row as i16 as usize)),
+];
+
+/// A judge that looks for anchors and for nullifiers in so many of the used rows.
+const fn looking(anchors: fn(usize) -> usize, spent: fn(usize) -> usize) -> Depots {
+    Depots {
+        anchors,
+        spent,
+        ..RIGHT_DEPOTS
+    }
+}
+
+/// A judge that names rows so.
+const fn naming(named: fn(usize) -> usize) -> Depots {
+    Depots {
+        named,
+        ..RIGHT_DEPOTS
+    }
+}
+
+/// Asks judges about each case and closing of a tape's runs for depots, and gives
+/// back which of them answered otherwise than the tape.
+fn depots_that_differ(tape: &[u8], judges: &[Depots]) -> Vec<bool> {
+    let mut player = Player::new();
+    let mut differ = vec![false; judges.len()];
+    let skipped = before_depots(tape).len();
+    for (index, (kind, body)) in entries(tape).into_iter().enumerate() {
+        if index > skipped && b"BC".contains(&kind) {
+            let case = (kind == b'C').then(|| Case::read(body).expect("a right length"));
+            let mut after = player.ledger.clone();
+            let right = match case {
+                Some(_) => judge(&mut after, body),
+                None => after.close_block(),
+            };
+            let asked = Asked::new(&player.ledger, case);
+            for (judge, differs) in judges.iter().zip(&mut differ) {
+                *differs |= judge.answer(&asked) != right;
+            }
+            player.ledger = after;
+        } else if kind != b'M' && player.play(kind, body).is_none() {
+            break;
+        }
+    }
+    differ
+}
+
+#[test]
+fn the_depot_runs_of_a_tape_find_wrong_limits_walks_and_looks() {
+    let wrong: Vec<(&str, Depots)> = [&WRONG_LIMITS[..], &WRONG_WALKS, &WRONG_LOOKS].concat();
+    let mut judges: Vec<Depots> = wrong.iter().map(|(_, judge)| *judge).collect();
+    judges.push(RIGHT_DEPOTS);
+    for (seed, tape) in tapes() {
+        let mut differ = depots_that_differ(&tape.bytes, &judges);
+        assert_eq!(differ.pop(), Some(false), "seed {seed}: the right one");
+        for ((name, _), differs) in wrong.iter().zip(differ) {
+            assert!(differs, "seed {seed}: a judge that {name}");
+        }
+    }
+}
+
+/// The entries of a run.
+fn entries_of<'a>(tape: &'a [u8], run: &str) -> Vec<(u8, &'a [u8])> {
+    let entries = entries(tape).into_iter();
+    let from = entries.skip_while(|entry| *entry != (b'N', run.as_bytes()));
+    from.skip(1).take_while(|(kind, _)| *kind != b'N').collect()
+}
+
+/// A case that brings a tree to 2^level leaves, as a run has it. The leaves before
+/// are the rows of the table.
+struct Carry {
+    record: Record,
+    leaves: Vec<Bytes32>,
+    /// The leaves of this case, and of others that may follow.
+    added: Vec<Bytes32>,
+    /// The roots that the ledger's lines have.
+    roots: Vec<String>,
+}
+
+impl Carry {
+    /// Plays the run, which starts with a ledger of its own.
+    fn play(tape: &[u8], run: &str) -> Carry {
+        let mut player = Player::new();
+        let mut carry = Carry {
+            record: Record::EMPTY,
+            leaves: Vec::new(),
+            added: Vec::new(),
+            roots: Vec::new(),
+        };
+        for (kind, body) in entries_of(tape, run) {
+            // A broken entry may follow the last run.
+            let Some(lines) = player.play(kind, body) else {
+                break;
+            };
+            match kind {
+                b'T' => carry.leaves = player.ledger.spent_rows().to_vec(),
+                b'K' => carry.record = player.ledger.tree.record().clone(),
+                b'C' => carry.added.extend(commitments_of(body)),
+                b'L' => carry.roots.extend(root_in(&lines[0])),
+                _ => (),
+            }
+        }
+        carry
+    }
+
+    /// The root of the whole tree over the leaves once so many are added.
+    fn root(&self, added: usize) -> String {
+        let leaves = [&self.leaves[..], &self.added[..added]].concat();
+        hex(&root_of_leaves(&leaves))
+    }
+}
+
+fn commitments_of(file: &[u8]) -> [Bytes32; 2] {
+    Case::read(file).expect("a case").commitments
+}
+
+/// The root in a ledger's line.
+fn root_in(line: &str) -> Option<String> {
+    line.split_once(" root ").map(|(_, root)| root.to_owned())
+}
+
+/// The carry runs of a tape, each with its level.
+fn carries(tape: &[u8]) -> impl Iterator<Item = (usize, Carry)> + '_ {
+    let play = |level| Carry::play(tape, &format!("carry-to-2-to-the-{level}"));
+    (1..=16).map(move |level| (level, play(level)))
+}
+
+#[test]
+fn the_carry_runs_of_a_tape_show_the_root_of_the_whole_tree() {
+    for (seed, tape) in tapes() {
+        for (level, carry) in carries(&tape.bytes) {
+            assert_eq!(carry.leaves.len() + 2, 1 << level);
+            let planted = hex(&carry.record.root());
+            assert_eq!(planted, carry.root(0), "seed {seed}: before {level}");
+            let cases = if [2, 15].contains(&level) { 2 } else { 1 };
+            let roots: Vec<String> = (1..=cases).map(|case| carry.root(2 * case)).collect();
+            assert_eq!(carry.roots, roots, "seed {seed}: carry to {level}");
+            let answers = answers_of(&tape.lines, &format!("carry-to-2-to-the-{level}"));
+            let expected = ["case 0 0", "block 0 0", "case 0 0"];
+            assert_eq!(answers, expected[..1 + cases], "seed {seed}: {level}");
+        }
+    }
+}
+
+/// The node that a wrong tree puts where a carry ends, by the record before the
+/// last leaf, that leaf, and the level.
+type WrongCarry = fn(&Record, &Bytes32, usize) -> Bytes32;
+
+/// Carries that are wrong, each with its name.
+const WRONG_CARRIES: [(&str, WrongCarry); 3] = [
+    ("is dropped", |record, _, level| record.nodes[level]),
+    ("stops one level short", |record, leaf, level| {
+        carried(record, leaf, level - 1)
+    }),
+    ("has the last two sides exchanged", |record, leaf, level| {
+        parent(&carried(record, leaf, level - 1), &record.nodes[level - 1])
+    }),
+];
+
+/// What a leaf becomes on its way to a level.
+fn carried(record: &Record, leaf: &Bytes32, level: usize) -> Bytes32 {
+    let waiting = record.nodes[..level].iter();
+    waiting.fold(*leaf, |node, waiting| parent(waiting, &node))
+}
+
+#[test]
+fn the_carry_runs_of_a_tape_find_each_carry_that_is_wrong() {
+    for (seed, tape) in tapes() {
+        for (level, carry) in carries(&tape.bytes) {
+            let before = carry.record.clone().with_leaf(&carry.added[0]);
+            let root_with = |node: Bytes32| {
+                let mut after = before.clone();
+                after.nodes[level] = node;
+                after.count += 1;
+                hex(&after.root())
+            };
+            let last = &carry.added[1];
+            let right = root_with(carried(&before, last, level));
+            assert_eq!(right, carry.roots[0], "seed {seed}: {level}");
+            for (name, wrong) in WRONG_CARRIES {
+                let root = root_with(wrong(&before, last, level));
+                assert_ne!(root, right, "seed {seed}: to {level} a carry that {name}");
+            }
         }
     }
 }
@@ -1242,19 +1867,18 @@ fn a_long_tape_takes_the_pool_past_both_bounds_and_mostly_leaves_it_within() {
 
 #[test]
 fn what_is_done_on_a_planted_ledger_is_followed_by_a_look_at_its_memory() {
-    for seed in SEEDS {
-        let tape = make_tape(seed, 600);
+    for (seed, tape) in tapes() {
         let mut is_planted = false;
         let mut is_due = false;
         // A broken entry may follow the sound ones.
         for (kind, _) in entries(&tape.bytes).into_iter().take(600) {
             match kind {
-                b'O' | b'P' => {
+                b'O' | b'P' | b'K' => {
                     assert!(!is_due, "seed {seed}: left without a look");
-                    is_planted = kind == b'P';
+                    is_planted = kind != b'O';
                     is_due = is_planted;
                 }
-                b'C' | b'B' => is_due = is_planted,
+                b'C' | b'B' | b'T' | b'A' => is_due = is_planted,
                 b'M' => is_due = false,
                 _ => (),
             }
@@ -1273,8 +1897,7 @@ fn spare(buffer: &[u8], used: u64) -> &[u8] {
 
 #[test]
 fn planted_ledgers_have_spare_bytes_that_are_not_zero() {
-    for seed in SEEDS {
-        let tape = make_tape(seed, 600);
+    for (seed, tape) in tapes() {
         let mut ragged = 0;
         for (kind, body) in entries(&tape.bytes).into_iter().take(600) {
             if kind != b'P' {
@@ -1318,8 +1941,8 @@ fn gates_without_number(tape: &[u8]) -> Vec<Gate> {
 
 #[test]
 fn a_tape_has_a_pull_that_is_no_number_at_every_sound_gate() {
-    for seed in SEEDS {
-        let gates = gates_without_number(&make_tape(seed, 600).bytes);
+    for (seed, tape) in tapes() {
+        let gates = gates_without_number(&tape.bytes);
         for gate in [Gate::None, Gate::AtLeast(-1.0), Gate::Between(-1.0, 1.0)] {
             assert!(gates.contains(&gate), "seed {seed}: {gate:?}");
         }

@@ -283,7 +283,7 @@ fn a_case_between_shifts_the_row_by_what_it_enters_below_and_nothing_else() {
     let mut shifts = [0; 3];
     for seed in 0..40 {
         let mut shift = Shift::busy(seed);
-        let rows = shift.ledger.spent_rows();
+        let rows = shift.ledger.spent_rows().to_vec();
         let index = shift.random.below(rows.len());
         let mut spent = shift.good_case();
         spent.nullifiers[0] = rows[index];

@@ -95,7 +95,7 @@ fn with_nullifiers(shift: &mut Shift, rows: [Option<Bytes32>; 2]) -> Case {
 #[test]
 fn refusal_8_names_the_row_of_the_nullifier_at_its_place() {
     let mut shift = Shift::busy(10);
-    let rows = shift.ledger.spent_rows();
+    let rows = shift.ledger.spent_rows().to_vec();
     let mut answer = |rows: [Option<Bytes32>; 2]| {
         let file = with_nullifiers(&mut shift, rows).to_bytes();
         judge_checked(&mut shift.ledger, &file)
@@ -115,7 +115,7 @@ fn refusal_8_names_the_row_of_the_nullifier_at_its_place() {
 #[test]
 fn a_spent_nullifier_s_row_is_not_told_where_the_ledger_is_refused() {
     let mut shift = Shift::busy(11);
-    let last = shift.ledger.spent_rows().pop();
+    let last = shift.ledger.spent_rows().last().copied();
     let file = with_nullifiers(&mut shift, [last, None]).to_bytes();
     let spent = shift.ledger.spent;
     for free in [0, 1] {
@@ -209,16 +209,13 @@ fn fewer_than_two_free_rows_is_refusal_3() {
     }
 }
 
-/// A sound ledger with this many nullifiers in a table of the greatest size.
-fn big_ledger(spent: u64) -> Ledger {
-    let mut ledger = Shift::fresh(4, 2_048, 2).ledger;
-    let rows = (1..=spent).map(|row| {
-        let mut bytes = [0; ROW_BYTES];
+/// A sound ledger with this many nullifiers in a table of so many rows.
+fn big_ledger(spent: u64, rows: usize) -> Ledger {
+    let mut ledger = Shift::fresh(4, rows, 2).ledger;
+    for (row, bytes) in (1..=spent).zip(ledger.table.chunks_exact_mut(ROW_BYTES)) {
+        bytes.fill(0);
         bytes[..8].copy_from_slice(&(row << 32).to_be_bytes());
-        bytes
-    });
-    let rows: Vec<u8> = rows.flatten().collect();
-    ledger.table[..rows.len()].copy_from_slice(&rows);
+    }
     ledger.spent = spent;
     let mut record = ledger.tree.record().clone();
     record.count = spent as u32;
@@ -227,28 +224,35 @@ fn big_ledger(spent: u64) -> Ledger {
 }
 
 #[test]
-fn a_ledger_of_2046_nullifiers_has_room_and_one_of_2048_has_none() {
-    let mut shift = Shift::fresh(5, 2, 2);
-    let file = shift.good_case().to_bytes();
-    let mut ledger = big_ledger(2_046);
-    assert!(!ledger.is_damaged());
-    assert_eq!(judge_checked(&mut ledger, &file), Answer::PASSED);
-    assert_eq!(ledger.spent, 2_048);
-    let other = shift.good_case().to_bytes();
-    assert_eq!(judge_checked(&mut ledger, &other), Answer::new(3, 0));
-    let mut full = big_ledger(2_048);
-    assert!(!full.is_damaged());
-    assert_eq!(judge_checked(&mut full, &file), Answer::new(3, 0));
+fn two_free_rows_are_room_and_none_are_not_on_long_tables() {
+    for rows in [2_048, 2_050, 65_536] {
+        let mut shift = Shift::fresh(5, 2, 2);
+        let file = shift.good_case().to_bytes();
+        let mut ledger = big_ledger(rows - 2, rows as usize);
+        assert!(!ledger.is_damaged());
+        assert_eq!(judge_checked(&mut ledger, &file), Answer::PASSED);
+        assert_eq!(ledger.spent, rows);
+        let other = shift.good_case().to_bytes();
+        assert_eq!(judge_checked(&mut ledger, &other), Answer::new(3, 0));
+        let mut full = big_ledger(rows, rows as usize);
+        assert!(!full.is_damaged());
+        assert_eq!(judge_checked(&mut full, &file), Answer::new(3, 0));
+    }
 }
 
 #[test]
-fn room_is_at_most_2048_rows_however_long_the_table() {
-    let mut ledger = big_ledger(2_048);
-    ledger.table.resize(70_000, 0xff);
-    assert_eq!(ledger.table_room(), 2_048);
+fn room_is_at_most_65536_rows_however_long_the_table() {
+    let mut ledger = big_ledger(65_536, 65_536);
     let file = Shift::fresh(5, 2, 2).good_case().to_bytes();
-    assert_eq!(judge_checked(&mut ledger, &file), Answer::new(3, 0));
-    ledger.spent = 2_050;
+    for more in [1, 2, 1_000] {
+        ledger.table.resize((65_536 + more) * ROW_BYTES, 0xff);
+        assert_eq!(ledger.table_room(), 65_536);
+        assert_eq!(judge_checked(&mut ledger, &file), Answer::new(3, 0));
+    }
+    let above = big_ledger(65_538, 65_540);
+    assert!(above.is_damaged());
+    assert_eq!(ledger.close_block(), Answer::PASSED);
+    ledger.table.truncate(65_536 * ROW_BYTES - 1);
     assert!(ledger.is_damaged());
 }
 
@@ -266,7 +270,7 @@ fn acceptance_leaves_what_the_rules_give() {
 
 /// Works out each part of the end state in another way than the judge does.
 fn check_acceptance(before: &Ledger, case: &Case, after: &Ledger) {
-    let mut spent: BTreeSet<_> = before.spent_rows().into_iter().collect();
+    let mut spent: BTreeSet<_> = before.spent_rows().iter().copied().collect();
     spent.extend(case.nullifiers);
     assert_eq!(after.spent, before.spent + 2);
     assert_eq!(after.spent_rows(), Vec::from_iter(spent));

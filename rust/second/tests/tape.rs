@@ -8,7 +8,8 @@ use second::ledger::{Ledger, ROW_BYTES};
 use second::seal::{seal_bytes, Gate, Seal};
 use second::sha256::sha256;
 use second::tape::{
-    entry, plant_body, play, read_plant, MAX_BODY_BYTES, MAX_ROLL_BYTES, MAX_TABLE_BYTES,
+    entry, keep_body, plant_body, play, read_plant, Fill, Player, MAX_BODY_BYTES, MAX_ROLL_BYTES,
+    MAX_TABLE_BYTES,
 };
 use second::tree::{empty_root, Tree, DEPTH};
 
@@ -99,7 +100,7 @@ fn a_short_day_prints_its_lines() {
 #[test]
 fn a_case_that_is_refused_as_spent_is_followed_by_its_row_and_no_other_one_is() {
     let mut shift = Shift::busy(5);
-    let rows = shift.ledger.spent_rows();
+    let rows = shift.ledger.spent_rows().to_vec();
     let file = shift.good_case().to_bytes();
     let mut tape = planting(&shift.ledger);
     let mut expected = vec!["plant 0 0".to_owned()];
@@ -287,9 +288,9 @@ fn before_the_first_ledger_the_memory_has_only_nodes_of_zero_bytes() {
 
 #[test]
 fn of_the_longest_buffers_2048_and_1024_rows_are_shown() {
-    let mut ledger = Ledger::zeroed(vec![1; MAX_TABLE_BYTES], vec![2; MAX_ROLL_BYTES]);
-    (ledger.spent, ledger.anchors) = (5_000, 5_000);
-    let lines = play(&[planting(&ledger), entry(b'R', &[])].concat());
+    let mut ledger = Ledger::zeroed(vec![0; MAX_TABLE_BYTES], vec![0; MAX_ROLL_BYTES]);
+    (ledger.spent, ledger.anchors) = (70_000, 5_000);
+    let lines = play(&[keeping(&ledger), entry(b'R', &[])].concat());
     let count = |word: &str| lines.iter().filter(|line| line.starts_with(word)).count();
     assert_eq!(count("spent "), 2_048);
     assert_eq!(count("anchor "), 1_024);
@@ -297,9 +298,140 @@ fn of_the_longest_buffers_2048_and_1024_rows_are_shown() {
 
 #[test]
 fn lengths_up_to_the_limits_are_taken() {
-    assert_eq!((MAX_TABLE_BYTES, MAX_ROLL_BYTES), (65_631, 32_863));
-    assert_eq!(play(&opening(65_631, 32_863)), ["open 0 0"]);
+    assert_eq!((MAX_TABLE_BYTES, MAX_ROLL_BYTES), (2_097_247, 131_167));
+    assert_eq!(play(&opening(2_097_247, 131_167)), ["open 0 0"]);
     assert_eq!(play(&entry(b'C', &[0; MAX_BODY_BYTES])), ["case 1 0"]);
+    let longest = Ledger::zeroed(vec![0; MAX_TABLE_BYTES], vec![0; MAX_ROLL_BYTES]);
+    assert_eq!(play(&keeping(&longest)), ["plant 0 0"]);
+}
+
+fn keeping(ledger: &Ledger) -> Vec<u8> {
+    entry(b'K', &keep_body(ledger))
+}
+
+#[test]
+fn a_keep_plants_all_but_the_bytes_of_the_buffers() {
+    let mut sound = Shift::busy(8).ledger;
+    sound.pool = 7;
+    let body = keep_body(&sound);
+    assert_eq!(body.len(), 996);
+    assert_eq!(body, plant_body(&sound)[..996]);
+    let mut player = Player::new();
+    let lines = player.play(b'K', &body).expect("a sound body");
+    assert_eq!(lines, ["plant 0 0"]);
+    let kept = player.ledger;
+    assert_eq!(kept.table, vec![0; sound.table.len()]);
+    assert_eq!(kept.roll, vec![0; sound.roll.len()]);
+    assert_eq!((kept.spent, kept.anchors, kept.pool), (14, 4, 7));
+    assert_eq!(kept.tree.record(), sound.tree.record());
+    assert_eq!(kept.tree.leaves(), None);
+}
+
+/// A fill of so many rows from that one on, with a number that wraps.
+fn wrapping_fill(first: u32, rows: u32) -> Fill {
+    Fill {
+        first,
+        rows,
+        start: u64::MAX - 1,
+        step: 0x0102_0304_0506_0708,
+        tail: std::array::from_fn(|byte| byte as u8 + 100),
+    }
+}
+
+#[test]
+fn a_fill_s_body_lies_as_agreed() {
+    let body = wrapping_fill(3, 70_000).body();
+    assert_eq!(body.len(), 48);
+    assert_eq!(body[..4], [3, 0, 0, 0]);
+    assert_eq!(body[4..8], [0x70, 0x11, 1, 0]);
+    assert_eq!(body[8..16], [254, 255, 255, 255, 255, 255, 255, 255]);
+    assert_eq!(body[16..24], [8, 7, 6, 5, 4, 3, 2, 1]);
+    assert_eq!(body[24..], Vec::from_iter(100..124));
+    assert_eq!(Fill::read(&body), Some(wrapping_fill(3, 70_000)));
+}
+
+#[test]
+fn filled_rows_begin_with_a_number_that_steps_and_wraps_highest_byte_first() {
+    let fill = wrapping_fill(0, 4);
+    let begins: [[u8; 8]; 4] = [
+        [255, 255, 255, 255, 255, 255, 255, 254],
+        [1, 2, 3, 4, 5, 6, 7, 6],
+        [2, 4, 6, 8, 10, 12, 14, 14],
+        [3, 6, 9, 12, 15, 18, 21, 22],
+    ];
+    for (before, begin) in begins.into_iter().enumerate() {
+        let row = fill.row(before as u64);
+        assert_eq!(row[..8], begin);
+        assert_eq!(row[8..], Vec::from_iter(100..124));
+    }
+}
+
+/// A ledger of ones, with a table of five rows and a roll of three, and 31 bytes
+/// more of each.
+fn ones() -> Ledger {
+    let mut ledger = Ledger::zeroed(vec![1; 5 * ROW_BYTES + 31], vec![1; 3 * ROW_BYTES + 31]);
+    (ledger.spent, ledger.anchors, ledger.pool) = (1, 1, 1);
+    ledger
+}
+
+#[test]
+fn a_fill_writes_its_rows_and_nothing_else() {
+    let fill = wrapping_fill(1, 2);
+    let rows = [fill.row(0), fill.row(1)].concat();
+    for kind in [b'T', b'A'] {
+        let mut expected = read_plant(&plant_body(&ones())).expect("a sound body");
+        let mut player = Player::new();
+        player.ledger = expected.clone();
+        let lines = player.play(kind, &fill.body()).expect("a sound fill");
+        assert_eq!(lines, ["fill 0 0"]);
+        let buffer = match kind {
+            b'T' => &mut expected.table,
+            _ => &mut expected.roll,
+        };
+        buffer[ROW_BYTES..3 * ROW_BYTES].copy_from_slice(&rows);
+        assert_eq!(player.ledger, expected);
+    }
+}
+
+#[test]
+fn a_fill_takes_the_last_whole_row_and_no_later_one() {
+    for (kind, whole) in [(b'T', 5), (b'A', 3)] {
+        let mut player = Player::new();
+        player.ledger = ones();
+        let mut is_taken = |first: u32, rows: u32| {
+            let before = player.ledger.clone();
+            let body = wrapping_fill(first, rows).body();
+            let is_taken = player.play(kind, &body).is_some();
+            assert!(is_taken && rows > 0 || player.ledger == before);
+            is_taken
+        };
+        for (first, rows) in [(0, whole), (whole - 1, 1), (0, 0), (whole, 0)] {
+            assert!(is_taken(first, rows), "{rows} rows from {first}");
+        }
+        for (first, rows) in [
+            (0, whole + 1),
+            (whole, 1),
+            (whole + 1, 0),
+            (u32::MAX, 1),
+            (1, u32::MAX),
+            (1 << 27, 0),
+            (1 << 27, 1),
+            (0, 1 << 27),
+            (1 << 31, 1 << 31),
+        ] {
+            assert!(!is_taken(first, rows), "{rows} rows from {first}");
+        }
+    }
+}
+
+#[test]
+fn before_the_first_ledger_there_is_no_row_to_fill() {
+    for kind in [b'T', b'A'] {
+        let none = entry(kind, &wrapping_fill(0, 0).body());
+        assert_eq!(play(&none), ["fill 0 0"]);
+        let one = entry(kind, &wrapping_fill(0, 1).body());
+        assert_eq!(play(&one), BROKEN);
+    }
 }
 
 #[test]
@@ -327,8 +459,8 @@ fn broken_entries_end_the_run() {
         entry(b'O', &[]),
         entry(b'O', &[0; 7]),
         entry(b'O', &[0; 9]),
-        opening(65_632, 32),
-        opening(32, 32_864),
+        opening(2_097_248, 32),
+        opening(32, 131_168),
         entry(b'N', &[b'-'; 101]),
         entry(b'S', &[0; 40]),
         entry(b'S', &[0; 42]),
@@ -336,15 +468,36 @@ fn broken_entries_end_the_run() {
         entry(b'P', &plant[..995]),
         entry(b'P', &plant[..plant.len() - 1]),
         entry(b'P', &[&plant[..], &[0]].concat()),
-        planting(&Ledger::zeroed(vec![0; MAX_TABLE_BYTES + 1], Vec::new())),
-        planting(&Ledger::zeroed(Vec::new(), vec![0; MAX_ROLL_BYTES + 1])),
         entry(b'C', &[0; MAX_BODY_BYTES + 1]),
     ];
-    for bytes in broken {
-        assert_eq!(play(&bytes), BROKEN);
+    assert_broken(&broken);
+}
+
+/// Each of these is broken, and so nothing behind it is played.
+fn assert_broken(entries: &[Vec<u8>]) {
+    for bytes in entries {
+        assert_eq!(play(bytes), BROKEN);
         let followed = [&bytes[..], &entry(b'L', &[])].concat();
         assert_eq!(play(&followed), BROKEN);
     }
+}
+
+#[test]
+fn broken_keeps_and_fills_end_the_run() {
+    let keep = keep_body(&Ledger::zeroed(vec![0; 10], vec![0; 10]));
+    assert_broken(&[
+        entry(b'K', &[]),
+        entry(b'K', &keep[..995]),
+        entry(b'K', &[&keep[..], &[0]].concat()),
+        keeping(&Ledger::zeroed(vec![0; MAX_TABLE_BYTES + 1], Vec::new())),
+        keeping(&Ledger::zeroed(Vec::new(), vec![0; MAX_ROLL_BYTES + 1])),
+        entry(b'T', &[]),
+        entry(b'T', &[0; 47]),
+        entry(b'T', &[0; 49]),
+        entry(b'A', &[]),
+        entry(b'A', &[0; 47]),
+        entry(b'A', &[0; 49]),
+    ]);
 }
 
 #[test]

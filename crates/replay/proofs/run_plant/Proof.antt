@@ -1,12 +1,20 @@
 -- Where the two lengths of the entry can be lent, the two fills leave the planted bytes in the lent parts and the rest as it was, and the ledger is read from the entry; where not, the tape is broken.
 use Prim.Native.Nat.{ℕ}
-use mathlib.Core.Path.{sym}
+use mathlib.Core.Path.{_≡_, sym, _∙_}
+use mathlib.Core.Bool.{Bool}
+use lib.Dec.{eqb}
+use native.Mathlib.Omega.{arith}
 use lib.Seq.{length-take-le, length-front}
 use Rattle.replay.proofs.TurnLaws.{plays-as, plays-broken, lent-table, lent-roll, lends-by, plant-plays}
-use Rattle.replay.specs.Tape.{plantTurn}
+use Rattle.replay.specs.Tape.{canLend, plantLength, plantTurn}
 use borrow.Author.Needs.{needs}
 use Rattle.replay.proofs.run_plant.Statement.{statement}
 use Rattle.replay.proofs.run_plant.Tie as tie
+
+-- what is lent by the length that was worked out
+by-length : (len n m table roll : ℕ) (given : Bool) {k : ℕ} → k ≡ plantLength given n m
+    → canLend (eqb len k) n m table roll ≡ canLend (eqb len (plantLength given n m)) n m table roll
+by-length len n m table roll given e = rw e
 
 returns : tie.Need-returns
 returns c =
@@ -17,9 +25,10 @@ returns c =
     let p = q .before .before .before .before in
     let i = p .before .before in
     let l = i .before in
-    let m = l .before in
+    let k = l .before in
+    let m = k .before in
     let n = m .before in
-    plant-plays _ _ _ _ _ _ _ _ _ _ _ _ _ _ (n .le32 .ensures) (m .le322 .ensures) (l .can-lend .ensures) (i .if1 .taken) (p .fill .ensures)
+    plant-plays _ _ _ _ _ _ _ _ _ _ _ _ _ _ _ (n .le32 .ensures) (m .le322 .ensures) (l .can-lend .ensures ∙ by-length _ _ _ _ _ _ (k .plant-length .ensures)) (i .if1 .taken) (p .fill .ensures)
     (q .fill2 .ensures) (a .accepted .ensures) (r .read .ensures) (w .put-answer-line .ensures) (c .going-on .ensures)
 
 returns-2 : tie.Need-returns-2
@@ -28,9 +37,10 @@ returns-2 c =
     let b = c .before .before in
     let i = b .before .before in
     let l = i .before in
-    let m = l .before in
+    let k = l .before in
+    let m = k .before in
     let n = m .before in
-    plays-as (lends-by _ _ _ _ (n .le32 .ensures) (m .le322 .ensures) (l .can-lend .ensures) (i .if1 .left)) (plays-broken (b .broken .ensures .0) (b .broken .ensures .1))
+    plays-as (lends-by _ _ _ _ (n .le32 .ensures) (m .le322 .ensures) (l .can-lend .ensures ∙ by-length _ _ _ _ _ _ (k .plant-length .ensures)) (i .if1 .left)) (plays-broken (b .broken .ensures .0) (b .broken .ensures .1))
 
 slice-relend-prefix-fill : tie.Need-slice-relend-prefix-fill
 slice-relend-prefix-fill c =
@@ -59,7 +69,7 @@ slice-aggregate-fill-2 c =
 same-length : tie.Need-same-length
 same-length c =
     let p = c .before .before .before .before .before .before .before .before .before .before .before .before .before .before in
-    let n = p .before .before .before .before .before in
+    let n = p .before .before .before .before .before .before in
     let s = n .before .before .before .before .before in
     length-front {A = ℕ} (s .args .table .now) (p .fill .last .0) (n .le32 .result) (p .fill .kept .0)
 
@@ -71,8 +81,7 @@ run-plant-spec =
     (λ c. search needs)
     (λ c κs. search needs)
     (λ c. search needs)
-    (λ c. search needs)
-    (λ c. search needs)
+    (λ c κs. omega arith)
     (λ c κs. search needs)
     slice-relend-prefix-fill
     slice-aggregate-fill

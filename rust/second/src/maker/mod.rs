@@ -6,7 +6,9 @@
 //! maker knows what the answer has to be, it checks the judge's.
 
 pub mod bends;
+mod by_rule;
 mod coverage;
+mod depots;
 mod edges;
 mod misses;
 mod pools;
@@ -24,7 +26,7 @@ use crate::case::{Case, CASE_BYTES};
 use crate::judge::all_refusals;
 use crate::ledger::{Ledger, MAX_POOL};
 use crate::random::Random;
-use crate::tape::{entry, plant_body, play, Player};
+use crate::tape::{entry, plant_body, play, Player, MAX_BODY_BYTES};
 use crate::wallet::set_nullifiers;
 
 use bends::{Bench, Bend, BENDS};
@@ -37,6 +39,10 @@ const TRIES: usize = 60;
 
 /// Of how many judged cases one is followed by a look at the memory.
 const CASES_TO_A_LOOK: usize = 30;
+
+/// How long a table may be that is looked at without a run's asking for it: all
+/// its bytes are hashed.
+const LOOKED_AT_BYTES: usize = 100_000;
 
 /// A tape, the lines it must print, and what it reaches.
 pub struct Tape {
@@ -86,13 +92,13 @@ struct Maker {
     /// Kinds of seals that have not been on the tape yet; all of them again
     /// once they have been.
     seals_due: Vec<seals::Kind>,
-    /// Whether the ledger was planted, not opened.
+    /// Whether the ledger was planted, not opened, on a table that is looked at.
     is_planted: bool,
     /// Whether something was done to a planted ledger since its memory was
     /// looked at.
     memory_due: bool,
-    /// How many long entries may still be made; the first scenes have theirs
-    /// besides.
+    /// How many scenes with long buffers, or long entries, may still be made; the
+    /// first scenes have theirs besides.
     long_left: usize,
 }
 
@@ -162,14 +168,16 @@ impl Maker {
 
     /// Plays an entry and puts it on the tape.
     fn put(&mut self, kind: u8, body: &[u8], purpose: Option<String>) -> Vec<String> {
+        assert!(body.len() <= MAX_BODY_BYTES, "no entry may be longer");
         let lines = self.player.play(kind, body).expect("a sound entry");
         let bytes = entry(kind, body);
         match kind {
-            b'O' | b'P' => self.is_planted = kind == b'P',
+            b'O' => self.is_planted = false,
+            b'P' | b'K' => self.is_planted = !self.is_long(),
             b'M' => self.memory_due = false,
             _ => (),
         }
-        if matches!(kind, b'P' | b'F' | b'C' | b'B') {
+        if matches!(kind, b'P' | b'K' | b'T' | b'A' | b'F' | b'C' | b'B') {
             self.memory_due = self.is_planted;
         }
         let is_beside = kind == b'N' || self.is_beside;
@@ -193,13 +201,18 @@ impl Maker {
     fn ask_case(&mut self, file: &[u8], expected: Answer, purpose: &str) {
         let answer = self.ask(b'C', file, Some(purpose.to_owned()));
         assert_eq!(answer, expected, "a case made for: {purpose}");
-        if self.random.one_in(CASES_TO_A_LOOK) {
+        if !self.is_long() && self.random.one_in(CASES_TO_A_LOOK) {
             self.look_at_memory(if answer.is_pass() {
                 "memory after an acceptance"
             } else {
                 "memory after a refusal"
             });
         }
+    }
+
+    /// Whether the table is too long to be looked at now and then.
+    fn is_long(&self) -> bool {
+        self.player.ledger.table.len() > LOOKED_AT_BYTES
     }
 
     /// Puts a case on the tape that would get this answer on a ledger that
@@ -447,7 +460,7 @@ impl Maker {
         self.ask_case(&file, Answer::new(1, 0), &purpose);
     }
 
-    /// Whether one more long entry may be made.
+    /// Whether one more such scene or entry may be made.
     fn take_long(&mut self) -> bool {
         let is_left = self.long_left > 0;
         self.long_left = self.long_left.saturating_sub(1);
@@ -467,8 +480,11 @@ impl Maker {
         assert_eq!(answer, expected, "closing a block");
         if answer.is_pass() {
             let root = self.purse.close_block();
-            let newest = self.player.ledger.anchor_rows().pop();
-            assert!(root.is_none() || root == newest, "the root over all leaves");
+            let newest = self.player.ledger.anchor_rows().last();
+            assert!(
+                root.is_none() || root.as_ref() == newest,
+                "the root over all leaves"
+            );
         }
     }
 

@@ -9,18 +9,18 @@
 use crate::answer::{Answer, Row};
 use crate::bytes::Bytes32;
 use crate::case::{Amount, Case};
-use crate::ledger::{Ledger, MAX_POOL, MAX_SPENT, ROW_BYTES};
+use crate::ledger::{Ledger, MAX_POOL, ROW_BYTES};
 use crate::random::Random;
-use crate::tape::MAX_TABLE_BYTES;
 use crate::wallet::{balance, write_case, Note, Plan};
 
+use super::by_rule::{depot, rising_through};
 use super::purse::Purse;
-use super::scenes::{ledger_from_elsewhere, ragged_length, write_row};
-use super::searches::{case_with, rows_of};
+use super::scenes::{ledger_from_elsewhere, ragged_length, write_row, LONG_TABLE};
 use super::Maker;
 
-/// All of them but for that of the longest table.
+/// All of them.
 pub(super) fn spent_rows(maker: &mut Maker) {
+    last_of_a_long_table(maker);
     rows_of_eight(maker);
     shifted_rows(maker);
 }
@@ -50,7 +50,7 @@ fn rows_of_eight(maker: &mut Maker) {
 }
 
 /// A spent note at place 1, then at place 2, beside one that is not spent.
-fn at_both_places(maker: &mut Maker, spent: &Note, unspent: &Note, row: Row) {
+pub(super) fn at_both_places(maker: &mut Maker, spent: &Note, unspent: &Note, row: Row) {
     judge_notes(maker, [spent, unspent], Answer::spent(1, row));
     judge_notes(maker, [unspent, spent], Answer::spent(2, row));
 }
@@ -105,26 +105,22 @@ fn accept(maker: &mut Maker, bytes: [u8; 2]) {
     judge_notes(maker, [&one, &other], Answer::PASSED);
 }
 
-/// Plants 2,046 rows, more of them lent than a ledger may use. The last is the
-/// first nullifier of a case, which is refused with that row and given back.
-pub(super) fn last_of_the_longest(maker: &mut Maker) -> Case {
-    let last = MAX_SPENT - 3;
+/// A table of 2,048 rows, of which 2,046 are used. The last of these is the first
+/// nullifier of a case, which comes before the table is full and once it is: that
+/// is asked first, and names no row.
+fn last_of_a_long_table(maker: &mut Maker) {
+    let last = LONG_TABLE - 3;
     maker.name(&format!("spent-in-row-{last}"));
-    let case = case_with(maker, |case| case.nullifiers[0][0] >= 0x80);
-    let spent = case.nullifiers[0];
-    let mut rows = rows_of(&mut maker.random, 0, spent[0] - 1, last);
-    rows.push(spent);
+    maker.purse = Purse::from_elsewhere(&mut maker.random, &[Amount(1), Amount(2)]);
+    let case = maker.purse.good_case(&mut maker.random);
     maker.purse.mark_spent(&case.old[0]);
-    let ledger = ledger_from_elsewhere(maker, &rows, MAX_TABLE_BYTES, 3);
-    maker.plant(&ledger, "2046 nullifiers, more rows lent than the limit");
+    let table = ragged_length(&mut maker.random, LONG_TABLE);
+    let fill = rising_through(LONG_TABLE, last, &case.nullifiers[0]);
+    depot(LONG_TABLE - 2, table).plant_rows(maker, &fill);
     let answer = Answer::spent(1, Row(last as u64));
     maker.judge(&case, answer, "nullifier in the last row");
-    case
-}
-
-/// The same case once the table is full: that is asked before, and names no row.
-pub(super) fn spent_in_a_full_table(maker: &mut Maker, case: &Case) {
     maker.name("spent-in-a-full-table");
+    maker.good_case();
     let file = case.to_bytes();
     maker.ask_case(&file, Answer::new(3, 0), "spent, and the table is full");
     maker.leave_ledger();
@@ -161,7 +157,7 @@ fn note_with(random: &mut Random, first_byte: u8) -> Note {
     }
 }
 
-fn judge_notes(maker: &mut Maker, notes: [&Note; 2], answer: Answer) {
+pub(super) fn judge_notes(maker: &mut Maker, notes: [&Note; 2], answer: Answer) {
     let case = case_over(maker, notes);
     maker.judge(&case, answer, "nullifiers of chosen rows");
 }

@@ -3,19 +3,21 @@
 use crate::answer::Answer;
 use crate::bytes::Bytes32;
 use crate::case::{Amount, Case, OldNote, Position, CASE_BYTES, MAX_MONEY};
-use crate::ledger::{is_pool, Ledger, MAX_ANCHORS, MAX_POOL, MAX_SPENT, ROW_BYTES};
+use crate::ledger::{is_pool, Ledger, MAX_POOL, ROW_BYTES};
 use crate::random::Random;
 use crate::tape::{
-    entry, plant_body, MAX_BODY_BYTES, MAX_ROLL_BYTES, MAX_TABLE_BYTES, ROWS_BEYOND,
+    entry, keep_body, plant_body, Fill, MAX_BODY_BYTES, MAX_ROLL_BYTES, MAX_TABLE_BYTES,
 };
 use crate::tree::{climb, parent, Record, Tree, DEPTH, FULL};
 use crate::wallet::{balance, idle_note, set_nullifiers, write_case, Note, Plan};
 
 use super::bends::{bend_named, BENDS};
+use super::by_rule::{among, any_rows, depot, depot_of_anchors};
+use super::depots::{any_depot, depots, rows_not_shown};
 use super::misses::near_misses;
 use super::pools::pool_runs;
 use super::purse::Purse;
-use super::rows::{last_of_the_longest, spent_in_a_full_table, spent_rows};
+use super::rows::spent_rows;
 use super::seals::KINDS;
 use super::searches::searches;
 use super::tampers::{fill_spare_bytes, fill_unused_nodes, TAMPERS};
@@ -76,6 +78,12 @@ const ODD_VALUES: [Amount; 10] = [
     Amount(0),
 ];
 
+/// Rows of a long table that still fits into one entry.
+pub(super) const LONG_TABLE: usize = 2_048;
+
+/// Rows of a long roll that still fits into one entry.
+const LONG_ROLL: usize = 1_024;
+
 /// A tape of so many entries has room for a few long ones beside them.
 const LONG_TAPE: usize = 600;
 
@@ -114,13 +122,14 @@ impl Maker {
             self.is_beside = true;
             self.name("big-table-without-room");
             big_table_without_room(self);
-            beyond_the_limits(self);
             near_misses(self);
             spent_rows(self);
             pool_runs(self);
-        }
-        if self.wanted > LONG_TAPE {
-            searches(self);
+            if self.wanted > LONG_TAPE {
+                searches(self);
+                rows_not_shown(self);
+            }
+            depots(self);
         }
     }
 
@@ -218,16 +227,13 @@ fn one_of_each(maker: &mut Maker) {
 }
 
 fn open_for_a_day(maker: &mut Maker) {
-    let (table, roll) = if maker.random.one_in(4) {
-        (MAX_TABLE_BYTES, MAX_ROLL_BYTES)
-    } else {
-        let table_rows = 8 + maker.random.below(30);
-        let roll_rows = 3 + maker.random.below(8);
-        (
-            length_of(&mut maker.random, table_rows),
-            length_of(&mut maker.random, roll_rows),
-        )
+    let (table_rows, roll_rows) = match maker.random.below(16) {
+        0 => return maker.open(MAX_TABLE_BYTES, MAX_ROLL_BYTES),
+        1..=3 => (LONG_TABLE, LONG_ROLL),
+        _ => (8 + maker.random.below(30), 3 + maker.random.below(8)),
     };
+    let table = length_of(&mut maker.random, table_rows);
+    let roll = length_of(&mut maker.random, roll_rows);
     maker.open(table, roll);
 }
 
@@ -278,10 +284,11 @@ fn due_cases(maker: &mut Maker, most: usize) -> usize {
 
 /// Plants the ledger as it is, with random bytes in every unused part.
 fn replant(maker: &mut Maker) {
-    let mut ledger = maker.player.ledger.clone();
-    if ledger.table.len() > 100 * ROW_BYTES && !maker.take_long() {
+    let lent = maker.player.ledger.table.len();
+    if maker.is_long() || lent > 100 * ROW_BYTES && !maker.take_long() {
         return;
     }
+    let mut ledger = maker.player.ledger.clone();
     fill_unused_nodes(&mut maker.random, &mut ledger);
     fill_spare_bytes(&mut maker.random, &mut ledger);
     maker.plant(&ledger, "own ledger, unused parts filled");
@@ -647,26 +654,33 @@ pub(super) fn ledger_from_elsewhere(
     ledger
 }
 
-/// One of the scenes with long entries, if the tape may have one more.
+/// One of the scenes with long buffers, if the tape may have one more.
 fn something_long(maker: &mut Maker) {
-    let scenes: [Act; 3] = [big_table_with_room, big_table_without_room, full_roll];
+    let scenes: [Act; 6] = [
+        big_table_with_room,
+        big_table_without_room,
+        full_roll,
+        any_depot,
+        any_depot,
+        any_depot,
+    ];
     if maker.take_long() {
         maker.random.pick(&scenes)(maker);
     }
 }
 
-/// 2,046 nullifiers: there is room for one more case.
+/// 2,046 nullifiers on 2,048 rows: there is room for one more case.
 fn big_table_with_room(maker: &mut Maker) {
-    plant_big_table(maker, MAX_SPENT - 2);
+    plant_big_table(maker, LONG_TABLE - 2);
     maker.bent_case();
     maker.good_case();
     maker.look_at_ledger();
     try_big_table(maker);
 }
 
-/// 2,048 nullifiers: there is no room.
+/// 2,048 nullifiers on 2,048 rows: there is no room.
 fn big_table_without_room(maker: &mut Maker) {
-    plant_big_table(maker, MAX_SPENT);
+    plant_big_table(maker, LONG_TABLE);
     try_big_table(maker);
 }
 
@@ -681,26 +695,19 @@ fn plant_big_table(maker: &mut Maker, spent: usize) {
     let values = [Amount(u64::MAX), Amount(1), Amount::ZERO, MAX_MONEY];
     maker.purse = Purse::from_elsewhere(&mut maker.random, &values);
     let taken = maker.purse.take_spent(&mut maker.random);
-    let given: Vec<Bytes32> = taken.into_iter().collect();
-    let mut rows = given.clone();
-    rows.extend((given.len()..spent).map(|_| maker.random.bytes::<32>()));
-    rows.sort();
-    let table = ragged_length(&mut maker.random, MAX_SPENT);
-    let ledger = ledger_from_elsewhere(maker, &rows, table, 3);
-    maker.plant(&ledger, &format!("{spent} nullifiers"));
+    let table = ragged_length(&mut maker.random, LONG_TABLE);
+    let fill = depot(spent, table).plant(maker);
+    if let Some(row) = taken {
+        maker.fill_table(&among(&fill, spent, &row));
+    }
 }
 
-/// Rolls at and near their greatest size.
+/// Rolls of 1,024 rows at and near their end.
 fn full_roll(maker: &mut Maker) {
     maker.purse = Purse::from_elsewhere(&mut maker.random, &[Amount(5), Amount(6)]);
-    let rows = rows_with(&mut maker.random, &[], 4);
-    let anchors = MAX_ANCHORS - 1;
-    let table = ragged_length(&mut maker.random, 8);
-    let mut ledger = ledger_from_elsewhere(maker, &rows, table, anchors);
-    if maker.random.one_in(2) {
-        ledger.anchors = MAX_ANCHORS as u64;
-    }
-    maker.plant(&ledger, "roll near its most");
+    let anchors = LONG_ROLL - maker.random.below(2);
+    let roll = ragged_length(&mut maker.random, LONG_ROLL);
+    depot_of_anchors(anchors, roll).plant(maker);
     maker.good_case();
     maker.close_block();
     maker.look_at_ledger();
@@ -708,65 +715,6 @@ fn full_roll(maker: &mut Maker) {
     maker.good_case();
     maker.bent_case();
     maker.look_at_ledger();
-}
-
-/// More rows lent than a ledger may use: counts below, at and above the limit,
-/// for judging and for closing. A count below comes to the limit by a case or by
-/// a closing.
-fn beyond_the_limits(maker: &mut Maker) {
-    table_beyond_its_limit(maker);
-    roll_beyond_its_limit(maker);
-}
-
-/// The table below its limit has a nullifier in its last row, which is asked
-/// about before the table is full and after.
-fn table_beyond_its_limit(maker: &mut Maker) {
-    let name = "more-table-rows-than-the-limit";
-    let spent_case = last_of_the_longest(maker);
-    maker.name(name);
-    ask_and_close(maker);
-    maker.name(name);
-    ask_and_close(maker);
-    spent_in_a_full_table(maker, &spent_case);
-    maker.name(name);
-    let spent = MAX_SPENT + ROWS_BEYOND;
-    maker.purse = Purse::from_elsewhere(&mut maker.random, &[Amount(5), Amount(6)]);
-    let rows = rows_with(&mut maker.random, &[], spent);
-    let ledger = ledger_from_elsewhere(maker, &rows, MAX_TABLE_BYTES, 3);
-    let purpose = format!("{spent} nullifiers, more rows lent than the limit");
-    maker.plant(&ledger, &purpose);
-    ask_and_close(maker);
-}
-
-fn roll_beyond_its_limit(maker: &mut Maker) {
-    let name = "more-roll-rows-than-the-limit";
-    maker.name(name);
-    plant_long_roll(maker, MAX_ANCHORS - 1);
-    ask_and_close(maker);
-    maker.name(name);
-    ask_and_close(maker);
-    maker.name(name);
-    plant_long_roll(maker, MAX_ANCHORS + ROWS_BEYOND);
-    ask_and_close(maker);
-}
-
-/// A ledger of this many anchors, more roll rows lent than the limit.
-fn plant_long_roll(maker: &mut Maker, anchors: usize) {
-    maker.purse = Purse::from_elsewhere(&mut maker.random, &[Amount(5), Amount(6)]);
-    let rows = rows_with(&mut maker.random, &[], 4);
-    let table = ragged_length(&mut maker.random, 8);
-    let mut ledger = ledger_from_elsewhere(maker, &rows, table, anchors.min(MAX_ANCHORS));
-    ledger.anchors = anchors as u64;
-    ledger.roll.resize(MAX_ROLL_BYTES, 1);
-    let purpose = format!("{anchors} anchors, more rows lent than the limit");
-    maker.plant(&ledger, &purpose);
-}
-
-/// A good case and a closing.
-fn ask_and_close(maker: &mut Maker) {
-    maker.good_case();
-    maker.close_block();
-    maker.look_at_memory("memory beyond the limits");
 }
 
 /// Leaf counts at which a record's root may go wrong.
@@ -922,12 +870,12 @@ fn cut_entry(random: &mut Random) -> Vec<u8> {
 
 /// An unknown kind, or a length that the kind may not have.
 fn broken_entry(random: &mut Random) -> Vec<u8> {
-    let plant =
-        |table: usize, roll: usize| plant_body(&Ledger::zeroed(vec![0; table], vec![0; roll]));
-    let mut long_plant = plant(64, 64);
-    long_plant.push(0);
-    match random.below(13) {
-        0 => entry(*random.pick(b"XoA\0\xff"), &[]),
+    let ledger = |table: usize, roll: usize| Ledger::zeroed(vec![0; table], vec![0; roll]);
+    let plant = plant_body(&ledger(64, 64));
+    let keep = keep_body(&ledger(64, 64));
+    let one_more = |body: &[u8]| [body, &[0]].concat();
+    match random.below(18) {
+        0 => entry(*random.pick(b"XoD\0\xff"), &[]),
         1 => entry(*random.pick(b"FBLRM"), &[0]),
         2 => entry(b'O', &opening(64, 64)[..7]),
         3 => entry(b'O', &[0; 9]),
@@ -935,11 +883,36 @@ fn broken_entry(random: &mut Random) -> Vec<u8> {
         5 => entry(b'O', &opening(64, MAX_ROLL_BYTES + 1)),
         6 => entry(b'S', &[0; 41][..*random.pick(&[0, 16, 40])]),
         7 => entry(b'S', &[0; 42]),
-        8 => entry(b'P', &plant(64, 64)[..995 + random.below(128)]),
-        9 => entry(b'P', &long_plant),
-        10 => entry(b'P', &plant(MAX_TABLE_BYTES + 1, 0)),
-        11 => entry(b'P', &plant(0, MAX_ROLL_BYTES + 1)),
+        8 => entry(b'P', &plant[..995 + random.below(128)]),
+        9 => entry(b'P', &one_more(&plant)),
+        10 => entry(b'K', &keep[..keep.len() - 1]),
+        11 => entry(b'K', &one_more(&keep)),
+        12 => entry(b'K', &keep_body(&ledger(MAX_TABLE_BYTES + 1, 0))),
+        13 => entry(b'K', &keep_body(&ledger(0, MAX_ROLL_BYTES + 1))),
+        14 => entry(*random.pick(b"TA"), &[0; 48][..*random.pick(&[0, 24, 47])]),
+        15 => entry(*random.pick(b"TA"), &[0; 49]),
+        16 => entry(*random.pick(b"TA"), &fill_past_all(random).body()),
         _ => entry(b'C', &vec![0; MAX_BODY_BYTES + 1]),
+    }
+}
+
+/// Rows that no buffer has: one behind the longest, none that come later still,
+/// and numbers whose sum or product would wrap at 32 bits.
+fn fill_past_all(random: &mut Random) -> Fill {
+    let behind = (MAX_TABLE_BYTES / ROW_BYTES) as u32;
+    let past = [
+        (behind, 1),
+        (behind + 1, 0),
+        (0, behind + 1),
+        (u32::MAX, 1),
+        (1, u32::MAX),
+        (1 << 27, 0),
+    ];
+    let (first, rows) = *random.pick(&past);
+    Fill {
+        first,
+        rows,
+        ..any_rows(random, 0)
     }
 }
 

@@ -1,23 +1,24 @@
 //! Runs for the search of the table: a nullifier in each row and in each gap of
-//! short tables and at the edges of the longest one, and rows that are off a
-//! nullifier in one byte alone. A tape of more than 600 entries has them, beside
+//! short tables and at the edges of a long one, and rows that are off a nullifier
+//! in one byte alone. A tape of more than 600 entries has them, beside
 //! the entries that it was asked for; the stored one is kept shorter.
 
 use crate::answer::{Answer, Row};
 use crate::bytes::Bytes32;
 use crate::case::{Amount, Case};
-use crate::ledger::{MAX_SPENT, ROW_BYTES};
+use crate::ledger::ROW_BYTES;
 use crate::random::Random;
 
 use super::misses::plant_rows;
 use super::purse::Purse;
+use super::scenes::LONG_TABLE;
 use super::Maker;
 
 /// How long the short tables are. A count is even: any other is damage.
 const SHORT: [usize; 4] = [2, 4, 6, 8];
 
-/// The longest table that has room for a case.
-const LONGEST: usize = MAX_SPENT - 2;
+/// How long the long one is. Those of the depots are longer still.
+const LONG: usize = LONG_TABLE - 2;
 
 /// How far first bytes have to be from each other and from their ends, so that
 /// there are rows enough between.
@@ -33,12 +34,12 @@ pub(super) fn searches(maker: &mut Maker) {
             in_row(maker, rows, row);
         }
     }
-    let middle = LONGEST / 2;
+    let middle = LONG / 2;
     for below in [0, middle] {
-        in_gaps(maker, LONGEST, below);
+        in_gaps(maker, LONG, below);
     }
-    for row in [0, middle, LONGEST - 1] {
-        in_row(maker, LONGEST, row);
+    for row in [0, middle, LONG - 1] {
+        in_row(maker, LONG, row);
     }
     for byte in 0..ROW_BYTES / 2 {
         beside_in_one_byte(maker, [byte, byte + ROW_BYTES / 2]);
@@ -116,7 +117,7 @@ fn beside_in_one_byte(maker: &mut Maker, bytes: [usize; 2]) {
 }
 
 /// A right case that is as it has to be.
-pub(super) fn case_with(maker: &mut Maker, is_wanted: impl Fn(&Case) -> bool) -> Case {
+fn case_with(maker: &mut Maker, is_wanted: impl Fn(&Case) -> bool) -> Case {
     loop {
         maker.purse = Purse::from_elsewhere(&mut maker.random, &[Amount(1), Amount(2)]);
         let case = maker.purse.good_case(&mut maker.random);
@@ -138,7 +139,7 @@ fn sorted(mut rows: [Bytes32; 2]) -> [Bytes32; 2] {
 }
 
 /// So many rising rows whose first byte is one of these.
-pub(super) fn rows_of(random: &mut Random, least: u8, most: u8, count: usize) -> Vec<Bytes32> {
+fn rows_of(random: &mut Random, least: u8, most: u8, count: usize) -> Vec<Bytes32> {
     let mut rows: Vec<Bytes32> = (0..count).map(|_| random.bytes()).collect();
     let choices = usize::from(most - least) + 1;
     for row in &mut rows {

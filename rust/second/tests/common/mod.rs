@@ -85,7 +85,7 @@ impl Shift {
     pub fn close(&mut self) {
         assert_eq!(self.ledger.close_block(), Answer::PASSED);
         let root = self.purse.close_block();
-        assert_eq!(self.ledger.anchor_rows().pop(), root);
+        assert_eq!(self.ledger.anchor_rows().last().copied(), root);
     }
 
     /// A good case bent, if it can be.

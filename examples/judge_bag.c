@@ -9,11 +9,12 @@
 
 #include "snaldrek.h"
 
-/* All memory is the host's. One byte more than the longest bag, so that a longer one is seen to be so. */
+/* All memory is the host's. One byte more than the longest bag, so that a longer one is seen to be so. Table and
+   roll are the scanner program's, far from all the room that there can be. */
 static uint8_t bag[SNALDREK_BAG_MAX_BYTES + 1];
 static uint8_t ledger[SNALDREK_LEDGER_BYTES];
-static uint8_t table[SNALDREK_TABLE_MAX_BYTES];
-static uint8_t roll[SNALDREK_ROLL_MAX_BYTES];
+static uint8_t table[2048 * SNALDREK_ROW_BYTES];
+static uint8_t roll[1024 * SNALDREK_ROW_BYTES];
 static uint8_t report[SNALDREK_REPORT_BYTES];
 
 static void print_answer(const char *what, uint32_t answer)

@@ -6,7 +6,11 @@
 use std::io::{self, Read, Write};
 use std::process::ExitCode;
 
-use snaldrek::{Answer, Calibration, Ledger, Refusal, MAX_ANCHORS, MAX_SPENT};
+use snaldrek::{Answer, Calibration, Ledger, Refusal};
+
+/// The scanner program's, far from all the room that there can be.
+const TABLE_ROWS: usize = 2_048;
+const ROLL_ROWS: usize = 1_024;
 
 fn main() -> ExitCode {
     let (error, status) = match read_bag() {
@@ -22,7 +26,7 @@ fn main() -> ExitCode {
 
 fn judge(bag: &[u8], out: &mut impl Write) -> io::Result<()> {
     let mut ledger =
-        Ledger::open(MAX_SPENT, MAX_ANCHORS).expect("a roll with rows is never refused");
+        Ledger::open(TABLE_ROWS, ROLL_ROWS).expect("a roll with rows is never refused");
     match ledger.scan_bag(bag, Calibration::PLAIN) {
         Err(broken @ Refusal::LayoutBroken) => print_answer(out, "bag", Err(broken))?,
         Err(seal) => print_answer(out, "seal", Err(seal))?,

@@ -7,6 +7,7 @@
  * The file has two slots, written by turns. A slot is a head of 48 bytes (the SHA-256 of all that follows,
  * the slot's turn, the length of the rest) and then the ledger's bytes, its table and its roll. The head is
  * written last. A slot that was torn does not check, and the other one, which is older by one turn, is taken.
+ * A whole slot is written for each accepted case, so table and roll have far from all the room that there can be.
  */
 #define _POSIX_C_SOURCE 200809L
 #include <fcntl.h>
@@ -21,8 +22,10 @@
 #define LENGTH (TURN + 8)
 #define LEDGER (LENGTH + 8)
 #define TABLE (LEDGER + SNALDREK_LEDGER_BYTES)
-#define ROLL (TABLE + SNALDREK_TABLE_MAX_BYTES)
-#define SLOT (ROLL + SNALDREK_ROLL_MAX_BYTES)
+#define TABLE_BYTES (2048 * SNALDREK_ROW_BYTES)
+#define ROLL (TABLE + TABLE_BYTES)
+#define ROLL_BYTES (1024 * SNALDREK_ROW_BYTES)
+#define SLOT (ROLL + ROLL_BYTES)
 #define PATH_BYTES 4096
 
 static uint8_t slot[SLOT], other[SLOT];
@@ -125,7 +128,7 @@ static int make(const char *name)
         return -1;
     if ((file = open(unfinished, O_RDWR | O_CREAT | O_TRUNC, 0600)) < 0)
         return -1;
-    snaldrek_open(slot + LEDGER, SNALDREK_LEDGER_BYTES, slot + ROLL, SNALDREK_ROLL_MAX_BYTES);
+    snaldrek_open(slot + LEDGER, SNALDREK_LEDGER_BYTES, slot + ROLL, ROLL_BYTES);
     done = store(file) == 0 && rename(unfinished, name) == 0 && settle_name(name) == 0;
     close(file);
     return done ? 0 : -1;
@@ -138,8 +141,7 @@ static int judge_cases(int file, const char *name)
     for (i = 1; i < rows; i++) {
         const uint8_t *row = bag + 2 + 9 * i;
         uint32_t answer = snaldrek_judge(bag + snaldrek_read_32(row + 1), snaldrek_read_32(row + 5), slot + LEDGER,
-                                         SNALDREK_LEDGER_BYTES, slot + TABLE, SNALDREK_TABLE_MAX_BYTES, slot + ROLL,
-                                         SNALDREK_ROLL_MAX_BYTES);
+                                         SNALDREK_LEDGER_BYTES, slot + TABLE, TABLE_BYTES, slot + ROLL, ROLL_BYTES);
         if (answer == SNALDREK_ACCEPTED && store(file) != 0)
             return failed(name);
         printf("case %u %u\n", SNALDREK_NUMBER(answer), SNALDREK_PLACE(answer));

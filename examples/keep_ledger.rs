@@ -11,14 +11,16 @@ use std::os::unix::fs::FileExt;
 use std::path::Path;
 use std::process::ExitCode;
 
-use snaldrek::{calls, Calibration, Ledger};
-use snaldrek::{LEDGER_BYTES, MAX_ANCHORS, MAX_SPENT, ROW_BYTES};
+use snaldrek::{calls, Calibration, Ledger, LEDGER_BYTES, ROW_BYTES};
+
+const TABLE_ROWS: usize = 2_048;
+const ROLL_ROWS: usize = 1_024;
 
 const DIGEST: usize = 32;
 const HEAD: usize = DIGEST + 16;
 const TABLE: usize = HEAD + LEDGER_BYTES;
-const ROLL: usize = TABLE + MAX_SPENT * ROW_BYTES;
-const SLOT: usize = ROLL + MAX_ANCHORS * ROW_BYTES;
+const ROLL: usize = TABLE + TABLE_ROWS * ROW_BYTES;
+const SLOT: usize = ROLL + ROLL_ROWS * ROW_BYTES;
 
 /// A ledger, and the turn at which it was stored last.
 struct Kept {
@@ -90,7 +92,7 @@ impl Kept {
 fn make(name: &Path) -> io::Result<()> {
     let mut unfinished = name.as_os_str().to_owned();
     unfinished.push(".new");
-    let ledger = Ledger::open(MAX_SPENT, MAX_ANCHORS).map_err(io::Error::other)?;
+    let ledger = Ledger::open(TABLE_ROWS, ROLL_ROWS).map_err(io::Error::other)?;
     Kept { ledger, turn: 0 }.store(&File::create(&unfinished)?)?;
     fs::rename(&unfinished, name)?;
     let folder = name.parent().filter(|folder| *folder != Path::new(""));

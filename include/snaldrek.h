@@ -63,8 +63,8 @@ uint32_t snaldrek_version(void);
 #define SNALDREK_SEAL_BYTES 25           /* a seal's body in a bag */
 #define SNALDREK_LEDGER_BYTES 988        /* counts, pool and tree record */
 #define SNALDREK_ROW_BYTES 32            /* a row of the table or of the roll */
-#define SNALDREK_TABLE_MAX_ROWS 2048     /* nullifiers; two for each accepted case */
-#define SNALDREK_ROLL_MAX_ROWS 1024      /* anchors; one from the start, one for each closed block */
+#define SNALDREK_TABLE_MAX_ROWS 65536    /* nullifiers; two for each accepted case */
+#define SNALDREK_ROLL_MAX_ROWS 4096      /* anchors; one from the start, one for each closed block */
 #define SNALDREK_ROOT_BYTES 32           /* the tree's root */
 #define SNALDREK_DIGEST_BYTES 32         /* a SHA-256 */
 #define SNALDREK_REPORT_BYTES 32         /* what became of a bag's cases */
@@ -72,8 +72,9 @@ uint32_t snaldrek_version(void);
 #define SNALDREK_DAY_ROW_BYTES 6         /* a row of the day list */
 #define SNALDREK_STACK_BYTES 16384       /* the most stack that a call takes */
 
-/* Buffers of these lengths have all the room that a ledger can use. Longer ones are never refused,
-   but rows past the most are not used. */
+/* Buffers of these lengths, 2 MiB and 128 KiB, have all the room that a ledger can use. A host may lend less:
+   a ledger has room for the whole rows that it is lent. Longer buffers are never refused, but rows past the
+   most are not used. */
 #define SNALDREK_TABLE_MAX_BYTES (SNALDREK_TABLE_MAX_ROWS * SNALDREK_ROW_BYTES)
 #define SNALDREK_ROLL_MAX_BYTES (SNALDREK_ROLL_MAX_ROWS * SNALDREK_ROW_BYTES)
 

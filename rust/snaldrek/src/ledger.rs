@@ -16,10 +16,10 @@ pub const MAX_BAG_BYTES: usize = 65_536;
 pub const LEDGER_BYTES: usize = 988;
 /// The length of a row of the table or of the roll.
 pub const ROW_BYTES: usize = 32;
-/// The most nullifiers that a ledger has room for.
-pub const MAX_SPENT: usize = 2_048;
-/// The most anchors that a ledger has room for.
-pub const MAX_ANCHORS: usize = 1_024;
+/// The most nullifiers that a ledger has room for, in a table of 2 MiB.
+pub const MAX_SPENT: usize = 65_536;
+/// The most anchors that a ledger has room for, in a roll of 128 KiB.
+pub const MAX_ANCHORS: usize = 4_096;
 /// All the money there will ever be, in zatoshi: the highest public value, and
 /// the most that a pool can hold.
 pub const MAX_MONEY: u64 = 2_100_000_000_000_000;
@@ -37,8 +37,9 @@ pub struct Ledger {
 impl Ledger {
     /// A fresh ledger with room for this many nullifiers, two for each case
     /// that it is to accept, and for this many anchors, one for the start and
-    /// one for each block that is to be closed. Refused where there is room
-    /// for no anchor. More than the most are not used.
+    /// one for each block that is to be closed. Each row takes 32 bytes of
+    /// memory. Refused where there is room for no anchor. More than the most
+    /// are not used.
     pub fn open(table_rows: usize, anchor_rows: usize) -> Result<Ledger, Refusal> {
         let mut ledger = Ledger {
             bytes: [0; LEDGER_BYTES],
@@ -131,7 +132,7 @@ impl Ledger {
     }
 }
 
-/// What the ledger says of itself, and none of its thousands of bytes.
+/// What the ledger says of itself, and none of its memory.
 impl fmt::Debug for Ledger {
     fn fmt(&self, out: &mut fmt::Formatter<'_>) -> fmt::Result {
         out.debug_struct("Ledger")

@@ -15,11 +15,13 @@ use snaldrek::{calls, judge_seal, Calibration, Ledger, Refusal, LEDGER_BYTES};
 
 const ENTRIES: usize = 700;
 
-/// Both judges' ledgers, how many cases they have judged, and the dice.
+/// Both judges' ledgers, how many cases they have judged, how many of these in
+/// a large table, and the dice.
 struct Pair {
     ours: Ledger,
     theirs: PlainLedger,
     cases: usize,
+    large: usize,
     random: Random,
 }
 
@@ -36,7 +38,7 @@ impl Pair {
             b'B' => self.close(),
             b'S' => play_seal(body),
             b'L' => assert_eq!(self.ours.root(), self.theirs.tree.root(), "the root"),
-            b'P' => self.plant(body),
+            b'P' | b'K' | b'T' | b'A' => self.plant(kind, body),
             _ => (),
         }
     }
@@ -74,6 +76,7 @@ impl Pair {
             "a refusal changes no byte"
         );
         self.cases += 1;
+        self.large += usize::from(self.theirs.spent >= 65_534);
     }
 
     /// The case with one bit turned over, on copies of the ledgers.
@@ -100,9 +103,11 @@ impl Pair {
         );
     }
 
-    fn plant(&mut self, body: &[u8]) {
+    /// A ledger, or rows of the one that stands, by the second judge's player.
+    fn plant(&mut self, kind: u8, body: &[u8]) {
         let mut player = Player::new();
-        player.play(b'P', body).expect("a sound plant");
+        player.ledger = self.theirs.clone();
+        player.play(kind, body).expect("a sound plant");
         self.theirs = player.ledger;
         self.ours = same_ledger(&self.theirs);
     }
@@ -137,9 +142,19 @@ fn play_seal(body: &[u8]) {
     }
 }
 
+/// Whether an entry is none. Cases never are, and looks are where they have a
+/// body: neither is played for this, since a large ledger takes long.
+fn is_broken(player: &mut Player, kind: u8, body: &[u8]) -> bool {
+    match kind {
+        b'C' => false,
+        b'B' | b'L' | b'R' | b'M' => !body.is_empty(),
+        _ => player.play(kind, body).is_none(),
+    }
+}
+
 /// Plays the tape of a seed up to what is no entry, with which one in four
-/// ends, and gives the number of its cases.
-fn play_tape(seed: u64) -> usize {
+/// ends.
+fn play_tape(seed: u64) -> Pair {
     let tape = make_tape(seed, ENTRIES);
     let mut player = Player::new();
     let theirs = PlainLedger::zeroed(Vec::new(), Vec::new());
@@ -147,23 +162,30 @@ fn play_tape(seed: u64) -> usize {
         ours: same_ledger(&theirs),
         theirs,
         cases: 0,
+        large: 0,
         random: Random::new(seed),
     };
     for (index, (kind, body)) in entries(&tape.bytes).into_iter().enumerate() {
-        if player.play(kind, body).is_none() {
+        if is_broken(&mut player, kind, body) {
             break;
         }
         pair.play(kind, body);
         let when = format!("seed {seed}, after entry {index} of kind {}", kind as char);
         assert_alike(&pair.ours, &pair.theirs, &when);
     }
-    pair.cases
+    pair
 }
 
 fn play_tapes(seeds: std::ops::Range<u64>) {
-    let cases: usize = seeds.map(play_tape).sum();
-    println!("{cases} cases judged by both");
+    let pairs: Vec<Pair> = seeds.map(play_tape).collect();
+    let cases: usize = pairs.iter().map(|pair| pair.cases).sum();
+    let large: usize = pairs.iter().map(|pair| pair.large).sum();
+    println!("{cases} cases judged by both, {large} of them in a large table");
     assert!(cases > 1_000, "only {cases} cases were judged");
+    assert!(
+        large > 50,
+        "only {large} cases in a large table were judged"
+    );
 }
 
 #[test]
@@ -200,7 +222,7 @@ fn noise_is_refused_alike() {
 /// A fresh ledger of the wrapper is the second judge's.
 #[test]
 fn opening_is_alike() {
-    for (table, roll) in [(0, 1), (2, 1), (2_048, 1_024)] {
+    for (table, roll) in [(0, 1), (2, 1), (2_048, 1_024), (65_536, 4_096)] {
         let ours = Ledger::open(table, roll).expect("a roll with rows");
         let (theirs, _) = PlainLedger::open(vec![0; 32 * table], vec![0; 32 * roll]);
         assert_alike(&ours, &theirs, "opened");

@@ -1,7 +1,7 @@
 //! A lent buffer of the wrong length is refused with 51 before anything else
 //! is looked at, and every byte stays.
 
-use snaldrek::{calls, LEDGER_BYTES};
+use snaldrek::{calls, Ledger, LEDGER_BYTES};
 
 const WRONG_LEDGERS: [usize; 6] = [0, 1, 987, 989, 1_976, 4_096];
 const WRONG_32: [usize; 5] = [0, 1, 31, 33, 64];
@@ -116,7 +116,7 @@ fn a_tally_of_another_length_is_refused() {
 
 #[test]
 fn lengths_that_may_be_anything_are_never_refused_as_wrong() {
-    for rows in [0, 1, 31, 32, 33, 65, 2_048 * 32 + 31, 3_000 * 32] {
+    for rows in [0, 1, 31, 32, 33, 65, 65_536 * 32 + 31, 70_000 * 32] {
         let mut ledger = filled(LEDGER_BYTES);
         let (mut table, mut roll) = (filled(rows), filled(rows));
         let opened = calls::open(&mut ledger, &mut roll);
@@ -132,4 +132,11 @@ fn lengths_that_may_be_anything_are_never_refused_as_wrong() {
             }
         );
     }
+}
+
+#[test]
+fn a_ledger_takes_no_more_memory_than_it_can_use() {
+    let ledger = Ledger::open(65_537, usize::MAX).expect("rows for anchors");
+    let (_, table, roll) = ledger.parts();
+    assert_eq!([table.len(), roll.len()], [65_536 * 32, 4_096 * 32]);
 }

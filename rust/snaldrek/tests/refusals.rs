@@ -26,7 +26,7 @@ fn the_library_has_this_crates_version() {
 
 #[test]
 fn debugging_prints_no_memory() {
-    let ledger = snaldrek::Ledger::open(2_048, 1_024).expect("rows for anchors");
+    let ledger = snaldrek::Ledger::open(65_536, 4_096).expect("rows for anchors");
     assert_eq!(
         format!("{ledger:?}"),
         "Ledger { spent: 0, anchors: 1, leaves: 0, pool: 0, .. }"
@@ -57,7 +57,7 @@ fn each_row_has_its_variant_and_words() {
 
 #[test]
 fn a_spent_nullifier_tells_its_row() {
-    for row in [0, 1, 3, 255, 256, 2_047, 65_535] {
+    for row in [0, 1, 3, 255, 256, 2_047, 65_533, 65_535] {
         for (which, place, words) in [(Pair::First, 1, "first"), (Pair::Second, 2, "second")] {
             let refusal = Refusal::AlreadySpent(which, TableRow::new(row));
             let code = 8 + 256 * u32::from(place) + 65_536 * u32::from(row);

@@ -3,7 +3,7 @@
 
 use second::answer::Answer as Plain;
 use second::ledger::Ledger as PlainLedger;
-use second::tape::plant_body;
+use second::tape::keep_body;
 use snaldrek::{Answer, Ledger, Refusal, LEDGER_BYTES};
 
 /// The code of an answer of the second judge: number, place and row.
@@ -26,7 +26,7 @@ pub fn assert_answer(answer: Answer, expected: Plain, what: &str) {
 /// The second judge's ledger in the library's bytes: a plant's body starts
 /// with the same counts, pool and record.
 pub fn ledger_bytes(ledger: &PlainLedger) -> [u8; LEDGER_BYTES] {
-    plant_body(ledger)[..LEDGER_BYTES]
+    keep_body(ledger)[..LEDGER_BYTES]
         .try_into()
         .expect("a plant's body is longer")
 }

@@ -6,7 +6,7 @@ use second::judge::judge as judge_case;
 use second::ledger::Ledger;
 use second::seal::{judge_seal, Calibration, Seal};
 use second::sha256::sha256;
-use second::tape::{plant_body, read_plant};
+use second::tape::{keep_body, read_plant};
 
 use port::host;
 
@@ -58,7 +58,7 @@ fn ledger_in(ledger: &[u8], table: &[u8], roll: &[u8]) -> Ledger {
 }
 
 fn put_back(kept: &Ledger, ledger: &mut [u8]) {
-    ledger.copy_from_slice(&plant_body(kept)[..LEDGER_BYTES]);
+    ledger.copy_from_slice(&keep_body(kept)[..LEDGER_BYTES]);
 }
 
 fn seal_answer(seal: Option<Seal>, gain: f64, offset: f64) -> Result<f64, Answer> {

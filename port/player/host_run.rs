@@ -6,6 +6,8 @@ use std::hash::{Hash, Hasher};
 use second::bag::{read_bag, write_bag};
 use second::tape::Player;
 
+use port::{choose, variant};
+
 use crate::calls::{Calls, LEDGER_BYTES, SECOND};
 
 /// What is played: the entries of a tape, and bags.
@@ -88,8 +90,19 @@ impl Memory {
 }
 
 /// So many rows that rise.
-fn rising(count: u16) -> Vec<[u8; 32]> {
-    (0..count).map(|i| i.to_be_bytes().repeat(16).try_into().unwrap()).collect()
+fn rising(count: u32) -> Vec<[u8; 32]> {
+    (0..count).map(|i| i.to_be_bytes().repeat(8).try_into().unwrap()).collect()
+}
+
+/// Writes rows by a tape's rule: the eight bytes of a number, highest first, and 24 that are the same in all.
+fn fill(buffer: &mut [u8], body: &[u8]) {
+    let [first, count] = [0, 4].map(|at| number_at(body, at));
+    let [mut number, step] = [8, 16].map(|at| u64::from_le_bytes(body[at..at + 8].try_into().unwrap()));
+    for row in buffer.chunks_exact_mut(32).skip(first).take(count) {
+        row[..8].copy_from_slice(&number.to_be_bytes());
+        row[8..].copy_from_slice(&body[24..]);
+        number = number.wrapping_add(step);
+    }
 }
 
 /// The run: whom it calls, and who hears each line as it is said.
@@ -114,8 +127,9 @@ impl Run<'_> {
         self.books();
     }
 
-    /// A call's answer, as number, place and row, and what it left of the buffers.
+    /// A call's answer, as number, place and row, and what it left of the buffers. The next call has its turns anew.
     fn tell(&mut self, what: &str, answer: u32, buffers: &[&[u8]]) {
+        choose(variant());
         let mut hasher = DefaultHasher::new();
         buffers.hash(&mut hasher);
         let (number, place, row) = (answer % 256, answer / 256 % 256, answer / 65_536);
@@ -179,6 +193,12 @@ impl Run<'_> {
                     let (table, roll) = body[996..].split_at(number_at(body, 988));
                     m = Memory { ledger: body[..LEDGER_BYTES].to_vec(), table: table.to_vec(), roll: roll.to_vec() };
                 }
+                b'K' => {
+                    let [table, roll] = [988, 992].map(|at| vec![0; number_at(body, at)]);
+                    m = Memory { ledger: body[..LEDGER_BYTES].to_vec(), table, roll };
+                }
+                b'T' => fill(&mut m.table, body),
+                b'A' => fill(&mut m.roll, body),
                 b'C' => {
                     let later = script.tape[index..].iter().take(index % 8);
                     let cases: Vec<&[u8]> =
@@ -227,16 +247,19 @@ impl Run<'_> {
         }
     }
 
-    /// Tables and rolls of more rows than a ledger may use, and counts at both sides of the limit.
+    /// Tables and rolls of fewer and of more rows than a ledger may use, and counts at both sides of the limits; and
+    /// counts that were at the limits once.
     fn limits(&mut self, case: &[u8]) {
-        for (table, used) in
-            [2047, 2048, 2049, 2051, 4096].iter().flat_map(|t| [2044, 2046, 2048, 2050].map(|u| (*t, u)))
-        {
+        let small = [2047, 2048, 2050, 4096].iter().flat_map(|t| [2046, 2048, 2050].map(|u| (*t, u)));
+        let large = [65_535, 65_536, 65_538].iter().flat_map(|t| [65_534, 65_536, 65_538].map(|u| (*t, u)));
+        for (table, used) in small.chain(large) {
             let mut m = Memory::planted(&rising(used), table, 1, 2);
-            self.judge(case, &mut m.clone());
-            self.close(&mut m);
+            self.close(&mut m.clone());
+            self.judge(case, &mut m);
         }
-        for (roll, anchors) in [1023, 1024, 1025, 2048].iter().flat_map(|r| [1022, 1023, 1024, 1025].map(|a| (*r, a))) {
+        let small = [1024, 2048].iter().flat_map(|r| [1023, 1024, 1025].map(|a| (*r, a)));
+        let large = [4095, 4096, 4097, 4100].iter().flat_map(|r| [4094, 4095, 4096, 4097].map(|a| (*r, a)));
+        for (roll, anchors) in small.chain(large) {
             let mut m = Memory::planted(&[], 2, anchors, roll);
             self.judge(case, &mut m.clone());
             self.close(&mut m);

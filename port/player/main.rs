@@ -15,7 +15,7 @@ use std::path::Path;
 const CALLS_OF_EACH: u64 = 300;
 const CALLS_AT_EDGES: u64 = 100;
 /// The lengths of the tables that each variant searches.
-const SEARCHED: [usize; 12] = [0, 1, 2, 3, 4, 5, 6, 7, 8, 33, 2_046, 2_047];
+const SEARCHED: [usize; 12] = [0, 1, 2, 3, 4, 5, 6, 7, 8, 33, 2_047, 65_535];
 
 /// A call: the function, whether it is public, and what it was given, gave back, left and printed, if it ended.
 type Called = (&'static str, bool, Option<[Told; 4]>);

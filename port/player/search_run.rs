@@ -19,22 +19,27 @@ fn enough(rows: usize) -> u32 {
     usize::BITS - rows.leading_zeros()
 }
 
+/// A row or a gap, in words.
+fn words((what, index): (&str, usize)) -> String {
+    format!("{what} {index}")
+}
+
 /// What is wrong with a search, if anything is; and the comparisons that it took.
 fn searched(table: &[u8], rows: usize, number: usize) -> (Option<String>, u32) {
     choose(variant());
     counted();
     let row = numbered(rows, number);
     let place = match catch_unwind(AssertUnwindSafe(|| search(table, rows, &row))) {
-        Ok(Found::At(row)) => format!("row {}", row.index()),
-        Ok(Found::Gap(row)) => format!("gap {}", row.index()),
-        Err(_) => "a stop".to_string(),
+        Ok(Found::At(row)) => Some(("row", row.index())),
+        Ok(Found::Gap(row)) => Some(("gap", row.index())),
+        Err(_) => None,
     };
     let took = counted();
-    let right = format!("{} {}", ["gap", "row"][number % 2], number / 2);
-    let wrong = if place != right {
-        Some(format!("gives {place} for {right}"))
+    let right = (["gap", "row"][number % 2], number / 2);
+    let wrong = if place != Some(right) {
+        Some(format!("gives {} for {}", place.map_or("a stop".to_string(), words), words(right)))
     } else if took > enough(rows) {
-        Some(format!("takes {took} comparisons to {right}"))
+        Some(format!("takes {took} comparisons to {}", words(right)))
     } else {
         None
     };

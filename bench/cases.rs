@@ -9,7 +9,7 @@ use second::answer::Answer;
 use second::bytes::Bytes32;
 use second::case::{Amount, Case};
 use second::judge::{first_refusal, RULES};
-use second::ledger::{Ledger, MAX_POOL};
+use second::ledger::{Ledger, MAX_ANCHORS, MAX_POOL, MAX_SPENT, ROW_BYTES};
 use second::maker::bends::{Bench, Bend, BENDS};
 use second::maker::purse::Purse;
 use second::random::Random;
@@ -86,8 +86,8 @@ fn ledger_of(random: &mut Random, rows: &[Bytes32], roll: &[Bytes32]) -> Ledger 
         pool: POOL,
         tree: Tree::planted(record),
     };
-    ledger.table.resize(2_048 * 32, 0);
-    ledger.roll.resize(1_024 * 32, 0);
+    ledger.table.resize(MAX_SPENT * ROW_BYTES, 0);
+    ledger.roll.resize(MAX_ANCHORS * ROW_BYTES, 0);
     ledger
 }
 
@@ -128,7 +128,7 @@ fn main() {
     let mut damaged = scene.ledger.clone();
     damaged.pool = MAX_POOL + 1;
     let mut full = scene.ledger.clone();
-    full.table.truncate(32 * fill);
+    full.table.truncate(fill * ROW_BYTES);
     for ledger in [damaged, full] {
         put(&mut out, b'P', &plant_body(&ledger));
         (0..share).for_each(|_| put(&mut out, b'C', &scene.good().to_bytes()));

@@ -199,10 +199,16 @@ fn mark_all(scenes: &[(Ledgers, Vec<&[u8]>)], name: &str) {
 
 // The ledgers with those of their cases that are accepted.
 fn accepted<'a>(scenes: &[(Ledgers, Vec<&'a [u8]>)]) -> Vec<(Ledgers, Vec<&'a [u8]>)> {
-    let is_accepted = |planted: &Ledgers, file: &[u8]| by_plain(&mut planted.clone(), file) == 0;
     let of_one = |(planted, files): &(Ledgers, Vec<&'a [u8]>)| {
-        let files = files.iter().copied().filter(|file| is_accepted(planted, file));
-        (planted.clone(), files.collect())
+        let mut ledgers = planted.clone();
+        let is_accepted = |file: &&[u8]| {
+            let is_accepted = by_plain(&mut ledgers, file) == 0;
+            if is_accepted {
+                ledgers.put_back(planted);
+            }
+            is_accepted
+        };
+        (planted.clone(), files.iter().copied().filter(is_accepted).collect())
     };
     scenes.iter().map(of_one).collect()
 }

@@ -21,8 +21,8 @@ library=$(cd "$1" && pwd -P)
 mkdir -p "$2"
 out=$(cd "$2" && pwd -P)
 cases=${3:-10000} rounds=9 seed=1
-fills='0 1000 2046'
-steps='250 500 750 1250 1500 1750' # more fills with fewer cases, for the plot
+fills='0 2046' long='16384 65534' # rows in the table
+steps='8192 32768 49152'         # more of them, for the plot
 scratch=$out
 
 find_linker || fail "there is no $linker that links x86-64 programs (bench/README.md)"
@@ -49,11 +49,16 @@ build() {
         compile_x86 --cfg "rows=\"$way\"" --extern "second=$out/x86/libsecond.rlib" -L "$library" -l static=snaldrek \
             -o "$out/judge-$way" "$here/judge.rs"
     done
+    "$out/cases" 2046 100 "$seed" >"$out/tape"
+    ${qemu:+"$qemu"} "$out/judge-words" check "$out/tape" >/dev/null || fail "the tuned judge differs from the others"
 }
 
-# Counted: the instructions so far at a mark before and after each call.
+# Counted: the instructions so far at a mark before and after each call. The second judge, which takes several times
+# as many as the others in a long table, is always counted by blocks.
 count() { # FILL SIDE PROGRAM NAME
-    "$qemu" ${EXACT:+-singlestep} -plugin "$out/count.so,out=$out/total,marks=$out/marks" "$out/$3" mark "$4" "$out/tape"
+    local exact=${EXACT:+-singlestep}
+    [ "$2" != second ] || exact=
+    "$qemu" $exact -plugin "$out/count.so,out=$out/total,marks=$out/marks" "$out/$3" mark "$4" "$out/tape"
     awk 'NR % 2 { before = $1; next } { printf "%d ", $1 - before } END { print "" }' "$out/marks" |
         sed "s/^/1 $2 /" >>"$out/costs.$1"
 }
@@ -86,12 +91,12 @@ estimate() {
         printf '\nNo estimate of cycles: llvm-mca is missing.\n'
         return
     }
-    printf '\nCycles by the estimate of llvm-mca, %s cases; each block as a loop of its own, then as if nothing waited:\n\n' $((cases / 10))
+    printf '\nCycles by the estimate of llvm-mca, 1000 cases; each block as a loop of its own, then as if nothing waited:\n\n'
     echo '| rows | processor | proved / plain | nothing waits | proved / tuned | nothing waits |'
     echo '| --- | --- | --- | --- | --- | --- |'
     local fill cpu
-    for fill in $fills; do
-        "$out/cases" "$fill" $((cases / 10)) "$seed" >"$out/tape"
+    for fill in $fills $long; do
+        "$out/cases" "$fill" 1000 "$seed" >"$out/tape"
         note_blocks proved judge-plain
         note_blocks plain judge-plain
         note_blocks plain judge-words
@@ -109,7 +114,8 @@ note_blocks() { # SIDE PROGRAM
 
 build
 for fill in $fills; do measure "$fill" "$cases"; done
-for fill in $steps; do measure "$fill" $((cases / 10)); done
+for fill in $long; do measure "$fill" 1000; done
+for fill in $steps; do measure "$fill" 100; done
 if [ -n "$qemu" ]; then
     unit=instructions
     echo "Counted instructions, no times: this machine is $(uname -m), and both sides ran under $("$qemu" --version | sed -n 1p)."
@@ -117,11 +123,11 @@ else
     unit=nanoseconds
     echo "Nanoseconds on this machine, $rounds rounds, the sides in turn."
 fi
-echo "$("$RUSTC" --version); $cases cases at each of $fills rows; all judges gave the same answers and left the same ledgers."
+echo "$("$RUSTC" --version); $cases cases at each of $fills rows, 1000 at each of $long; all judges gave the same answers and left the same ledgers."
 # shellcheck disable=SC2086
-python3 "$here/report.py" "$out" "$unit" $fills
+python3 "$here/report.py" "$out" "$unit" $fills $long
 if [ -n "$qemu" ]; then
     # shellcheck disable=SC2046,SC2086
-    python3 "$here/parts.py" "$out" "$out/judge-plain" $(printf '%s\n' $fills $steps | sort -n)
+    python3 "$here/parts.py" "$out" "$out/judge-plain" $(printf '%s\n' $fills $long $steps | sort -n)
     estimate
 fi

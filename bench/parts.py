@@ -12,10 +12,10 @@ from collections import Counter
 from pathlib import Path
 
 ABSORB = "sha256::absorb"  # called once for each compression
-PARTS = {  # as the table calls it, and the functions
+PARTS = {  # as the table calls it, and the functions: the first one always runs, the others may be compiled into it
     "four searches": ("judge::table::search", "judge::order::compare_words"),
-    "look for damage": ("judge::asking::sound",),
-    "moving rows": ("judge::table::enter_one",),
+    "look for damage": ("judge::asking::sound", "judge::table::is_rising", "judge::table::rises_to"),
+    "moving rows": ("judge::table::enter_one", "judge::table::shift", "judge::table::shift_eights", "judge::table::shift_four", "judge::table::shift_bytes"),
     "compressions": (ABSORB,),
 }
 

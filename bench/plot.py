@@ -7,6 +7,7 @@ import csv
 import sys
 
 HASHING = 74 * 3_553  # instructions of the 74 proved compressions that a case with two old notes of value takes
+COMPRESSIONS = "74 proved compressions"  # as their line is called
 WIDTH, HEIGHT = 760, 440
 LEFT, RIGHT, TOP, BOTTOM = 80, 190, 44, 56
 LINES = (  # answer, column, what the line is called, colour, dashes
@@ -16,6 +17,7 @@ LINES = (  # answer, column, what the line is called, colour, dashes
     ((7, 0), "proved", "refused by 7: proved", "#2f8f74", "2 3"),
     ((7, 0), "plain", "refused by 7: plain", "#c46a36", "2 3"),
 )
+ROWS = (0, 2_046, 16_384, 32_768, 49_152, 65_534)  # marks on the axis of the rows
 PARTS = (("look for damage", "#0b6e4f"), ("moving rows", "#b5541c"), ("four searches", "#33508c"))  # column, colour
 
 
@@ -41,52 +43,55 @@ def scales(lines):
     """From rows and costs to places in the picture, and the marks on the axis of the costs."""
     most_rows = max(x for *_, points in lines for x, _ in points)
     most_cost = max(y for *_, points in lines for _, y in points)
-    step = next(s for s in (5_000, 10_000, 20_000, 50_000, 100_000, 200_000) if most_cost / s <= 7)
+    step = next(n * 10**k for k in range(3, 9) for n in (1, 2, 5) if most_cost / (n * 10**k) <= 7)
     top = (int(most_cost / step) + 1) * step
     across = lambda x: LEFT + x / most_rows * (WIDTH - LEFT - RIGHT)
     up = lambda y: HEIGHT - BOTTOM - y / top * (HEIGHT - TOP - BOTTOM)
-    return across, up, range(0, top + 1, step), most_rows
+    return across, up, range(0, top + 1, step)
 
 
 def text(x, y, words, more=""):
     print(f'<text x="{x:.1f}" y="{y:.1f}" {more}>{words}</text>')
 
 
-def axes(across, up, marks, most_rows, title):
+def axes(across, up, marks, title):
     for cost in marks:
         print(f'<line x1="{LEFT}" x2="{WIDTH - RIGHT}" y1="{up(cost):.1f}" y2="{up(cost):.1f}" stroke="#ddd"/>')
         text(LEFT - 8, up(cost) + 4, f"{cost:,}", 'text-anchor="end"')
-    for rows in (0, 500, 1000, 1500, most_rows):
-        text(across(rows), HEIGHT - BOTTOM + 20, f"{rows:,}", 'text-anchor="middle"')
+    last = -WIDTH
+    for rows in ROWS:  # a mark right beside the last one stands lower
+        low = 16 if across(rows) - last < 40 else 0
+        text(across(rows), HEIGHT - BOTTOM + 20 + low, f"{rows:,}", 'text-anchor="middle"')
+        last = across(rows)
     text((LEFT + WIDTH - RIGHT) / 2, HEIGHT - 12, "nullifiers in the table", 'text-anchor="middle"')
     text(LEFT, TOP - 20, title, 'font-weight="bold"')
 
 
-def hashing(up):
+def hashing(up, height):
     """What no judge of these hashes can be below."""
     print(f'<line x1="{LEFT}" x2="{WIDTH - RIGHT}" y1="{up(HASHING):.1f}" y2="{up(HASHING):.1f}" stroke="#888" stroke-dasharray="3 4"/>')
-    text(WIDTH - RIGHT + 10, up(HASHING) + 4, "74 proved compressions", 'fill="#555"')
+    text(WIDTH - RIGHT + 10, height, COMPRESSIONS, 'fill="#555"')
 
 
-def labels(lines, up):
-    """The height of each line's name: at its end, but never on the name above it."""
+def labels(ends, up):
+    """The height of each name: at the end of its line, but never on the name above it."""
     low = {}
     last = 0
-    for name, _, _, points in sorted(lines, key=lambda line: -line[3][-1][1]):
-        last = low[name] = max(up(points[-1][1]) + 4, last + 16)
+    for name, cost in sorted(ends, key=lambda end: -end[1]):
+        last = low[name] = max(up(cost) + 4, last + 16)
     return low
 
 
 def main():
     title, has_hashing, lines = read(sys.argv[1])
-    across, up, marks, most_rows = scales(lines)
+    across, up, marks = scales(lines)
     print(f'<svg xmlns="http://www.w3.org/2000/svg" width="{WIDTH}" height="{HEIGHT}" viewBox="0 0 {WIDTH} {HEIGHT}" '
           'font-family="sans-serif" font-size="13">')
     print(f'<rect width="{WIDTH}" height="{HEIGHT}" fill="white"/>')
-    axes(across, up, marks, most_rows, title)
+    axes(across, up, marks, title)
+    heights = labels([(name, points[-1][1]) for name, *_, points in lines] + [(COMPRESSIONS, HASHING)] * has_hashing, up)
     if has_hashing:
-        hashing(up)
-    heights = labels(lines, up)
+        hashing(up, heights[COMPRESSIONS])
     for name, colour, dashes, points in lines:
         path = " ".join(f"{across(x):.1f},{up(y):.1f}" for x, y in points)
         print(f'<polyline points="{path}" fill="none" stroke="{colour}" stroke-width="2" stroke-dasharray="{dashes}"/>')

@@ -63,15 +63,16 @@ def row(*cells):
 def overall(fills, unit):
     counted = unit == "instructions"
     print("\nAll cases of a fill together, half of them accepted; then the accepted alone:\n")
-    row("rows", *(f"proved / {name}" for name in OTHERS.values()), "accepted, proved", "plain", "ratio", "least to most",
-        *(["over 74 compressions"] if counted else []))
-    row(*["---"] * (9 if counted else 8))
+    row("rows", "cases", *(f"proved / {name}" for name in OTHERS.values()), "accepted, proved", "plain", "tuned", "proved / plain",
+        "least to most", "proved / tuned", *(["over 74 compressions"] if counted else []))
+    row(*["---"] * (12 if counted else 11))
     for fill in fills:
         accepted = fill.kinds[0, 0]
         least, most = fill.spread("plain", accepted)
         proved = fill.mean("proved", accepted)
-        row(f"{fill.fill:,}", *(f"{fill.ratio(other, fill.all):.3f}" for other in OTHERS), f"{proved:,.0f}",
-            f"{fill.mean('plain', accepted):,.0f}", f"{fill.ratio('plain', accepted):.3f}", f"{least:.3f} to {most:.3f}",
+        row(f"{fill.fill:,}", f"{len(fill.all):,}", *(f"{fill.ratio(other, fill.all):.3f}" for other in OTHERS), f"{proved:,.0f}",
+            f"{fill.mean('plain', accepted):,.0f}", f"{fill.mean('words', accepted):,.0f}",
+            f"{fill.ratio('plain', accepted):.3f}", f"{least:.3f} to {most:.3f}", f"{fill.ratio('words', accepted):.3f}",
             *([f"{proved / (COMPRESSIONS * COMPRESSION):.3f}"] if counted else []))
     total = {side: sum(fill.mean(side, fill.all) for fill in fills) for side in SIDES}
     print("\nAll fills together: " + ", ".join(f"proved / {name} {total['proved'] / total[other]:.3f}" for other, name in OTHERS.items()))

@@ -1355,6 +1355,17 @@ fn each_pair_of_a_short_table_is_walked_over() {
 }
 
 #[test]
+fn each_row_of_a_short_table_falls_by_its_first_byte() {
+    let mut expected = vec!["block 0 0"];
+    expected.extend(["block 2 0"; 25]);
+    expected.push("block 0 0");
+    for (seed, tape) in tapes() {
+        let answers = answers_of(&tape.lines, "walk-by-first-bytes");
+        assert_eq!(answers, expected, "seed {seed}");
+    }
+}
+
+#[test]
 fn a_long_tape_has_a_look_at_more_rows_than_are_shown() {
     for (seed, tape) in long_tapes() {
         let lines: Vec<&str> = lines_of(&tape.lines, "more-rows-than-shown").collect();
@@ -1564,7 +1575,7 @@ fn leave_out<const PAIR: usize>(rows: &[Bytes32]) -> bool {
 }
 
 /// Judges that look for damage in a wrong way, each with its name.
-const WRONG_WALKS: [(&str, Depots); 17] = [
+const WRONG_WALKS: [(&str, Depots); 18] = [
     ("counts used rows in 16 bits", walking(|used| used & 0xffff)),
     ("walks over 2,048 rows", walking(|used| used.min(2_048))),
     ("walks over 32,768 rows", walking(|used| used.min(32_768))),
@@ -1616,6 +1627,10 @@ const WRONG_WALKS: [(&str, Depots); 17] = [
     (
         "takes equal first words for rising",
         seeing(|rows| rows.windows(2).all(|pair| pair[0][..8] <= pair[1][..8])),
+    ),
+    (
+        "looks at rows without their first bytes",
+        seeing(|rows| rows.windows(2).all(|pair| pair[0][1..] < pair[1][1..])),
     ),
     (
         "takes equal first words for falling",

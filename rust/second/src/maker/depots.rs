@@ -48,6 +48,7 @@ pub(super) fn depots(maker: &mut Maker) {
     for rows in [2, 4, 6, 8, 10, 12, 18, 20, 26] {
         walk(maker, rows);
     }
+    walk_by_first_bytes(maker);
     for level in 1..=16 {
         carry(maker, level);
     }
@@ -296,6 +297,29 @@ fn let_fall(maker: &mut Maker, fill: &Fill, at: usize) {
 /// Makes a row what the rule says again.
 fn mend(maker: &mut Maker, fill: &Fill, at: usize) {
     maker.fill_table(&one_row(at, &fill.row(at as u64)));
+}
+
+/// Each row of a table of 26 but the last in its turn has a first byte above the
+/// next one's, while all other bytes go on rising.
+fn walk_by_first_bytes(maker: &mut Maker) {
+    maker.name("walk-by-first-bytes");
+    set_purse(maker);
+    let fill = Fill {
+        start: 0x0180 << 48,
+        step: 1 << 40,
+        ..rising(&mut maker.random, 26)
+    };
+    depot(26, rows(26)).plant_rows(maker, &fill);
+    close(maker, 0);
+    for at in 0..25 {
+        let mut row = fill.row(at as u64);
+        row[0] += 1;
+        maker.fill_table(&one_row(at, &row));
+        close(maker, 2);
+        mend(maker, &fill, at);
+    }
+    close(maker, 0);
+    maker.leave_ledger();
 }
 
 /// 65,534 nullifiers of which one pair does not rise: the last, one in the middle,

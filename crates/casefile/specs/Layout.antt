@@ -2,7 +2,7 @@
 -- Assumes nothing.
 use Prim.Native.Nat.{ℕ, _+_, _-_, _*_}
 use mathlib.Core.List.{List, [], _∷_, _++_}
-use lib.ListN.{getD, take, drop}
+use lib.ListN.{length, getD, take, drop}
 use Rattle.octets.specs.Parts.{field}
 
 -- the public description: both public values, the anchor, nullifiers, commitments, ephemeral key, seed, tags, proof, ciphertexts
@@ -32,9 +32,16 @@ offset p k = total (take k (lengths p))
 unfoldable pub caseLength : ℕ → ℕ
 caseLength p = total (lengths p)
 
--- a file says by its length how long its proof is; there is one edition so far
+-- how long the proof is in each edition of the description
+abbrev pub firstProof : ℕ
+firstProof = 296
+
+abbrev pub secondProof : ℕ
+secondProof = 192
+
+-- in a file the proof has the bytes that the other fields leave: so a file says its edition by its length
 unfoldable pub proofLength : List ℕ → ℕ
-proofLength c = 296
+proofLength c = length c - caseLength 0
 
 -- field k of the file c
 unfoldable pub partOf : ℕ → List ℕ → List ℕ

@@ -1,24 +1,42 @@
 // Where each field of a case lies, reading it, and writing those that are worked out. Every reader takes
 // any slice: where the file has ended it reads zeros, so that no length has to be checked first. Offsets are
-// the definition's (specs/Layout.antt), which the proofs compute. What the fields must satisfy is left to
-// `statement`.
+// the definition's (specs/Layout.antt), which the proofs compute; behind the proof they are sums over its
+// length, in which the two editions differ. What the fields must satisfy is left to `statement`.
 ghost use mathlib.Core.Path.{_≡_};
 ghost use Prim.Native.Nat.{_+_, _≤_};
 ghost use Rattle.units.specs.Pairs.{numberOf, ofPair};
-ghost use Rattle.casefile.specs.Layout.{presentOf, nullifier as nullifierField, commitment as commitmentField, tag as tagField, ofOld, ofNew};
+ghost use Rattle.casefile.specs.Layout.{proofLength, presentOf, nullifier as nullifierField, commitment as commitmentField, tag as tagField, ofOld, ofNew};
 ghost use Rattle.casefile.specs.Writing.{hasPlace, putPart};
 ghost use Rattle.casefile.specs.Fields.{hasLength, vpubOldOf, vpubNewOf, anchorOf, nullifierOf, commitmentOf, seedOf, tagOf, transactionKeyOf, oldKeyOf, oldAddressOf, oldValueOf, oldRhoOf, oldTrapdoorOf, oldPositionOf, newAddressOf, newValueOf, newRhoOf, newTrapdoorOf, phiOf};
 use units::Amount;
 use units::Position;
 use units::Which;
 
-// How many bytes a case has.
-pub const CASE_LENGTH: usize = 4210;
+// How many bytes a case has in each edition, and how many in either without its proof.
+const FIRST_LENGTH: usize = 4210;
+
+const SECOND_LENGTH: usize = 4106;
+
+const LENGTH_WITHOUT_PROOF: usize = 3914;
+
+// Where a field behind the proof lies: start is where it would lie if the proof had no bytes. In either edition it
+// is as far from the file's end.
+fn behind_proof(case: &[u8], start: usize) -> usize
+    requires { ⌜ start ≤ 3914 ⌝ }
+    ensures { λ r. ⌜ r ≡ proofLength (now (case .entry)) + start ⌝ }
+{
+    let n = case.len();
+    if n < LENGTH_WITHOUT_PROOF {
+        return start;
+    }
+    n - (LENGTH_WITHOUT_PROOF - start)
+}
 
 // Where the field of a pair lies: its first stands at start, and its second step bytes further on.
 fn spot(i: Which, start: usize, step: usize) -> usize
     requires { ⌜ (start ≤ 4210) × (step ≤ 4210) ⌝ }
     ensures { λ r. ⌜ r ≡ ofPair i start (start + step) ⌝ }
+    ensures { λ r. ⌜ r ≤ start + step ⌝ }
 {
     match i {
         Which::First => start,
@@ -45,23 +63,35 @@ fn tag_at(i: Which) -> usize
     spot(i, 240, 32)
 }
 
-fn old_address_at(i: Which) -> usize
-    ensures { λ r. ⌜ r ≡ ofPair i 1866 (1866 + 1068) ⌝ }
+// Where a part of old note i lies, and one of new note i. Its place inside the note, inner, is counted from the
+// note's own start, as docs/FORMATS.md draws it.
+fn old_at(case: &[u8], i: Which, inner: usize) -> usize
+    requires { ⌜ inner ≤ 1068 ⌝ }
+    ensures { λ r. ⌜ r ≡ proofLength (now (case .entry)) + ofPair i (1538 + inner) (1538 + inner + 1068) ⌝ }
 {
-    spot(i, 1866, 1068)
+    behind_proof(case, spot(i, 1538 + inner, 1068))
 }
 
-fn new_rho_at(i: Which) -> usize
-    ensures { λ r. ⌜ r ≡ ofPair i 4010 (4010 + 104) ⌝ }
+fn new_at(case: &[u8], i: Which, inner: usize) -> usize
+    requires { ⌜ inner ≤ 104 ⌝ }
+    ensures { λ r. ⌜ r ≡ proofLength (now (case .entry)) + ofPair i (3674 + inner) (3674 + inner + 104) ⌝ }
 {
-    spot(i, 4010, 104)
+    behind_proof(case, spot(i, 3674 + inner, 104))
 }
 
-// Whether the file has a case's length.
+// Whether the file has a case's length, in either edition: no length between the two is a multiple of 104 above the
+// shorter one. Asked in this way, the compiler knows that every field lies within a whole file, and asks no more.
 pub fn has_length(case: &[u8]) -> bool
     ensures { λ r. ⌜ r ≡ hasLength (now (case .entry)) ⌝ }
 {
-    case.len() == CASE_LENGTH
+    let n = case.len();
+    if n < SECOND_LENGTH {
+        return false;
+    }
+    if FIRST_LENGTH < n {
+        return false;
+    }
+    (n - SECOND_LENGTH) % 104 == 0
 }
 
 pub fn vpub_old(case: &[u8]) -> Amount
@@ -109,43 +139,43 @@ pub fn tag(case: &[u8], i: Which) -> [u8; 32]
 pub fn transaction_key(case: &[u8]) -> [u8; 32]
     ensures { λ r. ⌜ r ≡ transactionKeyOf (now (case .entry)) ⌝ }
 {
-    octets::part32(case, 1802)
+    octets::part32(case, behind_proof(case, 1506))
 }
 
 pub fn old_key(case: &[u8], i: Which) -> [u8; 32]
     ensures { λ r. ⌜ r ≡ oldKeyOf (numberOf i) (now (case .entry)) ⌝ }
 {
-    octets::part32(case, spot(i, 1834, 1068))
+    octets::part32(case, old_at(case, i, 0))
 }
 
 pub fn old_address(case: &[u8], i: Which) -> [u8; 32]
     ensures { λ r. ⌜ r ≡ oldAddressOf (numberOf i) (now (case .entry)) ⌝ }
 {
-    octets::part32(case, old_address_at(i))
+    octets::part32(case, old_at(case, i, 32))
 }
 
 pub fn old_value(case: &[u8], i: Which) -> Amount
     ensures { λ r. ⌜ r .0 ≡ oldValueOf (numberOf i) (now (case .entry)) ⌝ }
 {
-    Amount::of(octets::le64(case, spot(i, 1898, 1068)))
+    Amount::of(octets::le64(case, old_at(case, i, 64)))
 }
 
 pub fn old_rho(case: &[u8], i: Which) -> [u8; 32]
     ensures { λ r. ⌜ r ≡ oldRhoOf (numberOf i) (now (case .entry)) ⌝ }
 {
-    octets::part32(case, spot(i, 1906, 1068))
+    octets::part32(case, old_at(case, i, 72))
 }
 
 pub fn old_trapdoor(case: &[u8], i: Which) -> [u8; 32]
     ensures { λ r. ⌜ r ≡ oldTrapdoorOf (numberOf i) (now (case .entry)) ⌝ }
 {
-    octets::part32(case, spot(i, 1938, 1068))
+    octets::part32(case, old_at(case, i, 104))
 }
 
 pub fn old_position(case: &[u8], i: Which) -> Position
     ensures { λ r. ⌜ r .0 ≡ oldPositionOf (numberOf i) (now (case .entry)) ⌝ }
 {
-    Position::of(octets::le32(case, spot(i, 1970, 1068)))
+    Position::of(octets::le32(case, old_at(case, i, 136)))
 }
 
 // The path's rows, leaf level first, as a part of the file: nothing is copied.
@@ -153,45 +183,44 @@ pub fn old_path<'a>(case: &'a [u8], i: Which) -> &'a [u8]
     ensures { λ r. ⌜ now r ≡ presentOf (ofOld (numberOf i) 6) (now (case .entry)) ⌝ }
 {
     let n = case.len();
-    let start = spot(i, 1974, 1068);
+    let start = old_at(case, i, 140);
     if n < start {
         return &case[n..n];
     }
-    let end = start + 928;
-    if n < end {
+    if n - start < 928 {
         return &case[start..n];
     }
-    &case[start..end]
+    &case[start..start + 928]
 }
 
 pub fn new_address(case: &[u8], i: Which) -> [u8; 32]
     ensures { λ r. ⌜ r ≡ newAddressOf (numberOf i) (now (case .entry)) ⌝ }
 {
-    octets::part32(case, spot(i, 3970, 104))
+    octets::part32(case, new_at(case, i, 0))
 }
 
 pub fn new_value(case: &[u8], i: Which) -> Amount
     ensures { λ r. ⌜ r .0 ≡ newValueOf (numberOf i) (now (case .entry)) ⌝ }
 {
-    Amount::of(octets::le64(case, spot(i, 4002, 104)))
+    Amount::of(octets::le64(case, new_at(case, i, 32)))
 }
 
 pub fn new_rho(case: &[u8], i: Which) -> [u8; 32]
     ensures { λ r. ⌜ r ≡ newRhoOf (numberOf i) (now (case .entry)) ⌝ }
 {
-    octets::part32(case, new_rho_at(i))
+    octets::part32(case, new_at(case, i, 40))
 }
 
 pub fn new_trapdoor(case: &[u8], i: Which) -> [u8; 32]
     ensures { λ r. ⌜ r ≡ newTrapdoorOf (numberOf i) (now (case .entry)) ⌝ }
 {
-    octets::part32(case, spot(i, 4042, 104))
+    octets::part32(case, new_at(case, i, 72))
 }
 
 pub fn phi(case: &[u8]) -> [u8; 32]
     ensures { λ r. ⌜ r ≡ phiOf (now (case .entry)) ⌝ }
 {
-    octets::part32(case, 4178)
+    octets::part32(case, behind_proof(case, 3882))
 }
 
 // Writing what is worked out from the rest of a case. Each of these puts 32 bytes where the reader of its
@@ -222,12 +251,12 @@ pub fn put_old_address(case: &mut [u8], i: Which, bytes: &[u8; 32]) -> bool
     ensures { λ r. ⌜ r ≡ hasPlace (ofOld (numberOf i) 1) (now (bytes .entry)) (now (case .entry)) ⌝ }
     ensures { λ _. ⌜ now (case .exit) ≡ putPart (ofOld (numberOf i) 1) (now (bytes .entry)) (now (case .entry)) ⌝ }
 {
-    octets::copy_in(case, old_address_at(i), bytes)
+    octets::copy_in(case, old_at(case, i, 32), bytes)
 }
 
 pub fn put_new_rho(case: &mut [u8], i: Which, bytes: &[u8; 32]) -> bool
     ensures { λ r. ⌜ r ≡ hasPlace (ofNew (numberOf i) 2) (now (bytes .entry)) (now (case .entry)) ⌝ }
     ensures { λ _. ⌜ now (case .exit) ≡ putPart (ofNew (numberOf i) 2) (now (bytes .entry)) (now (case .entry)) ⌝ }
 {
-    octets::copy_in(case, new_rho_at(i), bytes)
+    octets::copy_in(case, new_at(case, i, 40), bytes)
 }

@@ -17,7 +17,7 @@ use Rattle.ledger.specs.Ledgers.{no2, no3, no6, no8, no17, enteredOf}
 unfoldable pub judgeRefusals : List ℕ → List ℕ → List ℕ → Ledger → List Rule
 judgeRefusals c t r l =
     rulesIn
-    (no1 c  -- the case is not 4,210 bytes long
+    (no1 c  -- the case is neither 4,210 nor 4,106 bytes long
     ∷ no2 t r l  -- the ledger is damaged
     ∷ no3 t l  -- fewer than two free nullifier rows
     ∷ no4 c  -- both public values are nonzero

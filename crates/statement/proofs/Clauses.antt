@@ -3,9 +3,9 @@
 use Prim.Native.Nat.{ℕ, _+_, _-_, _^_, _<_, _≤_}
 use mathlib.Core.Path.{_≡_, sym, ap, _∙_}
 use mathlib.Core.Logic.{_⊎_}
-use mathlib.Core.Bool.{not, false≢true}
+use mathlib.Core.Bool.{true, not, false≢true}
 use mathlib.Core.List.{List}
-use lib.ListN.{length, getD}
+use lib.ListN.{getD}
 use borrow.Author.Tests.{not-false}
 use Rattle.octets.specs.Parts.{same}
 use Rattle.octets.proofs.PartLaws.{same-eq, same-refl}
@@ -15,14 +15,13 @@ use Rattle.refusals.proofs.Denials.{Denies, equal, at-most, below, either, both
 use Rattle.units.specs.Limits.{maxMoney, treeLeaves}
 use Rattle.units.specs.Pairs.{ForBoth}
 use Rattle.sprout.specs.Hashes.{hasTopBits, addressFrom, nullifierFrom, macFrom, rhoFrom, commitmentFrom}
-use Rattle.casefile.specs.Layout.{caseLength, proofLength}
 use Rattle.casefile.specs.Fields.{hasLength, vpubOldOf, vpubNewOf, anchorOf, nullifierOf, commitmentOf, tagOf, oldKeyOf, oldAddressOf, oldValueOf, oldRhoOf, oldPositionOf, newAddressOf, newValueOf, newRhoOf, newTrapdoorOf, phiOf}
 use Rattle.statement.specs.CaseRefusals.{bothPublic, aboveMoney, outOfRange, endsElsewhere, unbalanced, differs, pathEndOf, hSigOf, derivedRefusals, claimRefusals, no1, no4, no5, no7, no9, no10, no11, no12, no13, no14, no15, no16, rangeOf, straysOf, unbalancedOf, nullifierWrong, addressWrong, tagWrong, rhoWrong, commitmentWrong, witnessRefusals, caseRefusals}
 use Rattle.statement.proofs.Order.{case-numbered}
 
 pub record Clauses (c : List ℕ) : Type 0 where
   -- 1
-  pub whole : length c ≡ caseLength (proofLength c)
+  pub whole : hasLength c ≡ true
   -- 4
   pub one-sided : (vpubOldOf c ≡ 0) ⊎ (vpubNewOf c ≡ 0)
   -- 5
@@ -59,11 +58,11 @@ unlike {s} {t} =
 module _ (c : List ℕ) where
   -- no row applies exactly when each clause holds
   pub none-clauses : None (caseRefusals c) → Clauses c
-  unfolding testOf rulesIn hasLength bothPublic aboveMoney hasTopBits outOfRange endsElsewhere unbalanced differs no1 no4 no5 no7 no9 no10 no11 no12 no13 no14 no15 no16 rangeOf straysOf unbalancedOf nullifierWrong addressWrong tagWrong rhoWrong commitmentWrong derivedRefusals claimRefusals witnessRefusals caseRefusals
+  unfolding testOf rulesIn bothPublic aboveMoney hasTopBits outOfRange endsElsewhere unbalanced differs no1 no4 no5 no7 no9 no10 no11 no12 no13 no14 no15 no16 rangeOf straysOf unbalancedOf nullifierWrong addressWrong tagWrong rhoWrong commitmentWrong derivedRefusals claimRefusals witnessRefusals caseRefusals
   none-clauses h =
       let no = fails (caseRefusals c) h in
       record {
-        whole = equal .0 (no 1 0);
+        whole = not-false (hasLength c) (no 1 0);
         one-sided = either equal equal .0 (no 4 0);
         old-money = at-most .0 (no 5 1);
         new-money = at-most .0 (no 5 2);
@@ -80,9 +79,9 @@ module _ (c : List ℕ) where
       }
 
   pub clauses-none : Clauses c → None (caseRefusals c)
-  unfolding None rulesIn hasLength bothPublic aboveMoney hasTopBits outOfRange endsElsewhere unbalanced differs no1 no4 no5 no7 no9 no10 no11 no12 no13 no14 no15 no16 rangeOf straysOf unbalancedOf nullifierWrong addressWrong tagWrong rhoWrong commitmentWrong derivedRefusals claimRefusals witnessRefusals caseRefusals
+  unfolding None rulesIn bothPublic aboveMoney hasTopBits outOfRange endsElsewhere unbalanced differs no1 no4 no5 no7 no9 no10 no11 no12 no13 no14 no15 no16 rangeOf straysOf unbalancedOf nullifierWrong addressWrong tagWrong rhoWrong commitmentWrong derivedRefusals claimRefusals witnessRefusals caseRefusals
   clauses-none k =
-      equal .1 (k .whole)
+      ap not (k .whole)
       & either equal equal .1 (k .one-sided)
       & at-most .1 (k .old-money)
       & at-most .1 (k .new-money)

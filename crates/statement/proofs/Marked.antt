@@ -13,7 +13,7 @@ use Rattle.refusals.specs.declared.Answer.{Answer}
 use Rattle.refusals.specs.Rules.{first}
 use Rattle.sha256.specs.Compression.{compressOf}
 use Rattle.sprout.specs.Hashes.{addressPrefix, nullifierPrefix, macPrefix, rhoPrefix, withPrefix, hasTopBits, prefixed, addressFrom, nullifierFrom, macFrom, rhoFrom}
-use Rattle.casefile.specs.Layout.{description, oldNoteLengths, newNoteLengths, lengths, total, offset, proofLength, partOf}
+use Rattle.casefile.specs.Layout.{description, oldNoteLengths, newNoteLengths, lengths, total, offset, caseLength, proofLength, partOf}
 use Rattle.casefile.specs.Fields.{vpubOldOf, vpubNewOf, oldValueOf, newValueOf}
 use Rattle.statement.specs.CaseRefusals.{bothPublic, aboveMoney, outOfRange, unbalanced, unbalancedOf, no4, no5, no11}
 
@@ -79,7 +79,7 @@ module _ (rest : List ℕ) where
       ∷ []
 
   all-marked : every marked ≡ true
-  unfolding every firstByte answers public key phi marked withPrefix hasTopBits first valued no4 no5 no11 bothPublic aboveMoney outOfRange unbalanced unbalancedOf vpubOldOf vpubNewOf oldValueOf newValueOf partOf offset total lengths description oldNoteLengths newNoteLengths proofLength field listed little littleBytes
+  unfolding every firstByte answers public key phi marked withPrefix hasTopBits first valued no4 no5 no11 bothPublic aboveMoney outOfRange unbalanced unbalancedOf vpubOldOf vpubNewOf oldValueOf newValueOf partOf offset total lengths description oldNoteLengths newNoteLengths caseLength proofLength field listed little littleBytes
   all-marked = refl
 
   -- 1 to 6 once more, of the hashes themselves: each compresses a block that begins so

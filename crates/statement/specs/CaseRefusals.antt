@@ -11,7 +11,7 @@ use Rattle.sprout.specs.Hashes.{hasTopBits, addressFrom, nullifierFrom, macFrom
 use Rattle.tree.specs.Record.{pathEnd}
 use Rattle.casefile.specs.Fields.{hasLength, vpubOldOf, vpubNewOf, anchorOf, nullifierOf, commitmentOf, seedOf, tagOf, transactionKeyOf, oldKeyOf, oldAddressOf, oldValueOf, oldRhoOf, oldTrapdoorOf, oldPositionOf, oldPathOf, newAddressOf, newValueOf, newRhoOf, newTrapdoorOf, phiOf}
 
--- 1: the case is not 4,210 bytes long
+-- 1: the case is neither 4,210 nor 4,106 bytes long
 unfoldable pub no1 : List ℕ → List Rule
 no1 c = rule (not (hasLength c)) 1 0 ∷ []
 

@@ -1,16 +1,16 @@
 use mathlib.Core.Path.{refl, _∙_}
-use Rattle.casefile.specs.Layout.{description, oldNoteLengths, newNoteLengths, lengths, total, offset, proofLength, partOf}
+use Rattle.casefile.specs.Layout.{description, oldNoteLengths, newNoteLengths, lengths, total, offset, ofOld}
 use Rattle.casefile.specs.Fields.{oldKeyOf}
-use Rattle.casefile.proofs.Places.{paired}
+use Rattle.casefile.proofs.Places.{behind-pair, read-behind}
 use borrow.Author.Needs.{needs}
 use Rattle.casefile.proofs.old_key.Statement.{statement}
 use Rattle.casefile.proofs.old_key.Tie as tie
 
 returns : tie.Need-returns
-unfolding oldKeyOf description oldNoteLengths newNoteLengths lengths total offset proofLength partOf
+unfolding oldKeyOf description oldNoteLengths newNoteLengths lengths total offset
 returns c =
     let a = c .before .before .before .args in
-    c .part32 .ensures ∙ paired (λ i. oldKeyOf i (a .case .now)) 1834 1068 32 (a .case .now) refl refl (a .i) _ (c .before .spot .ensures)
+    c .part32 .ensures ∙ read-behind _ _ 32 (a .case .now) (behind-pair (λ j. ofOld j 0) 1538 1068 32 (refl, refl, refl) (refl, refl, refl) (a .i)) _ (c .before .old-at .ensures)
 
 pub old-key-spec : {M : Type 1} → statement M
 old-key-spec = tie.close (tie.spec (λ c κs. search needs) (λ c κs. search needs) returns)

@@ -9,19 +9,19 @@ returns : tie.Need-returns
 returns c =
     let p = c .before .before in
     let a = p .before .before .args in
-    none-present (a .case .now) (p .spot .result) 928 (omega arith) ∙ path-part (a .case .now) (a .i) (p .spot .result) (p .spot .ensures)
+    none-present (a .case .now) (p .old-at .result) 928 (omega arith) ∙ path-part (a .case .now) (a .i) (p .old-at .result) (p .old-at .ensures)
 
 returns-2 : tie.Need-returns-2
 returns-2 c =
     let p = c .before .before .before in
     let a = p .before .before .args in
-    some-present (a .case .now) (p .spot .result) 928 (omega arith) ∙ path-part (a .case .now) (a .i) (p .spot .result) (p .spot .ensures)
+    some-present (a .case .now) (p .old-at .result) 928 (omega arith) ∙ path-part (a .case .now) (a .i) (p .old-at .result) (p .old-at .ensures)
 
 returns-3 : tie.Need-returns-3
 returns-3 c =
     let p = c .before .before .before in
     let a = p .before .before .args in
-    all-present (a .case .now) (p .spot .result) 928 ∙ path-part (a .case .now) (a .i) (p .spot .result) (p .spot .ensures)
+    all-present (a .case .now) (p .old-at .result) 928 ∙ path-part (a .case .now) (a .i) (p .old-at .result) (p .old-at .ensures)
 
 pub old-path-spec : {M : Type 1} → statement M
 old-path-spec =
@@ -34,8 +34,8 @@ old-path-spec =
     returns
     (λ c. search needs)
     (λ c. search needs)
-    (λ c. search needs)
     returns-2
+    (λ c. search needs)
     (λ c. search needs)
     (λ c. search needs)
     (λ c. search needs)

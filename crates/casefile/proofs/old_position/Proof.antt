@@ -1,18 +1,20 @@
 use mathlib.Core.Path.{refl, ap, _∙_}
 use Rattle.octets.specs.Numbers.{little}
-use Rattle.casefile.specs.Layout.{description, oldNoteLengths, newNoteLengths, lengths, total, offset, proofLength, partOf, ofOld}
+use Rattle.casefile.specs.Layout.{description, oldNoteLengths, newNoteLengths, lengths, total, offset, ofOld}
 use Rattle.casefile.specs.Fields.{oldPositionOf}
-use Rattle.casefile.proofs.Places.{paired}
+use Rattle.casefile.proofs.Places.{behind-pair, read-behind}
 use borrow.Author.Needs.{needs}
 use Rattle.casefile.proofs.old_position.Statement.{statement}
 use Rattle.casefile.proofs.old_position.Tie as tie
 
 returns : tie.Need-returns
-unfolding oldPositionOf description oldNoteLengths newNoteLengths lengths total offset proofLength partOf
+unfolding oldPositionOf description oldNoteLengths newNoteLengths lengths total offset
 returns c =
     let n = c .before in
     let a = n .before .before .before .args in
-    c .of .ensures ∙ n .le32 .ensures ∙ ap little (paired (λ i. partOf (ofOld i 5) (a .case .now)) 1970 1068 4 (a .case .now) refl refl (a .i) _ (n .before .spot .ensures))
+    c .of .ensures
+    ∙ n .le32 .ensures
+    ∙ ap little (read-behind _ _ 4 (a .case .now) (behind-pair (λ j. ofOld j 5) 1674 1068 4 (refl, refl, refl) (refl, refl, refl) (a .i)) _ (n .before .old-at .ensures))
 
 pub old-position-spec : {M : Type 1} → statement M
 old-position-spec = tie.close (tie.spec (λ c κs. search needs) (λ c κs. search needs) (λ c κs. search needs) returns)

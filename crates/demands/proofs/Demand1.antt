@@ -15,8 +15,7 @@ use Rattle.refusals.specs.Rules.{rulesIn, first, numbered}
 use Rattle.refusals.specs.Sentences.{AnswersBy, placesOf, OneOf}
 use Rattle.refusals.proofs.SentenceLaws.{Tells, tells-equal, tells-below, tells-at-most, tells-above, tells-not, tells-both, tells-either, Agree, done, _&_, answers-by}
 use Rattle.sprout.specs.Hashes.{hasTopBits}
-use Rattle.casefile.specs.Layout.{description, oldNoteLengths, newNoteLengths, lengths, total, caseLength, proofLength}
-use Rattle.casefile.specs.Fields.{hasLength}
+use Rattle.casefile.proofs.Editions.{two-lengths}
 use Rattle.statement.specs.CaseRefusals.{bothPublic, aboveMoney, outOfRange, endsElsewhere, unbalanced, differs, pathEndOf, no1, no4, no5, no7, no9, no10, no11, no12, no13, no14, no15, no16, rangeOf, straysOf, unbalancedOf, nullifierWrong, addressWrong, tagWrong, rhoWrong, commitmentWrong, oldCommitmentOf, hSigOf}
 use Rattle.ledger.specs.declared.Ledger.{Ledger}
 use Rattle.ledger.specs.declared.Order.{Order}
@@ -65,9 +64,9 @@ damage-told t r l =
 module _ (c t r : List ℕ) (l : Ledger) where
   -- A CASE: row by row of the judge's table
   rows-told : Agree (judgeRefusals c t r l) (caseSentences c t r l)
-  unfolding judgeRefusals rulesIn caseSentences no1 no2 no3 no4 no5 no6 no7 no8 no9 no10 no11 no12 no13 no14 no15 no16 no17 outside poolAfter hasLength caseLength proofLength lengths description oldNoteLengths newNoteLengths total bothPublic aboveMoney hasTopBits outOfRange endsElsewhere unbalanced differs pathEndOf rangeOf straysOf unbalancedOf nullifierWrong addressWrong tagWrong rhoWrong commitmentWrong oldCommitmentOf hSigOf
+  unfolding judgeRefusals rulesIn caseSentences no1 no2 no3 no4 no5 no6 no7 no8 no9 no10 no11 no12 no13 no14 no15 no16 no17 outside poolAfter bothPublic aboveMoney hasTopBits outOfRange endsElsewhere unbalanced differs pathEndOf rangeOf straysOf unbalancedOf nullifierWrong addressWrong tagWrong rhoWrong commitmentWrong oldCommitmentOf hSigOf
   rows-told =
-      tells-not tells-equal
+      tells-not (two-lengths c)
       & damage-told t r l
       & tells-below
       & tells-both (tells-not tells-equal) (tells-not tells-equal)

@@ -11,8 +11,8 @@ use Rattle.refusals.specs.declared.Answer.{Answer}
 use Rattle.refusals.specs.Rules.{Rule, accepted, first, None, rulesIn, numbered, lower}
 use Rattle.refusals.proofs.RuleLaws.{by-test, first-none, none-first}
 use Rattle.refusals.proofs.TwoTables.{lower-accepts}
-use Rattle.casefile.specs.Layout.{description, oldNoteLengths, newNoteLengths, lengths, total, caseLength, proofLength}
 use Rattle.casefile.specs.Fields.{vpubOldOf, vpubNewOf, anchorOf, nullifierOf}
+use Rattle.casefile.proofs.Editions.{two-lengths}
 use Rattle.statement.specs.CaseRefusals.{oldCommitmentOf, pathEndOf, hSigOf, caseRefusals}
 use Rattle.statement.proofs.Clauses.{Clauses, accepted-clauses, clauses-accepted}
 use Rattle.ledger.specs.declared.Ledger.{Ledger}
@@ -49,13 +49,13 @@ module _ (c t r : List ℕ) (l : Ledger) where
 
   -- the clauses of the case alone are the encoding, the public values, that the nullifiers differ, and the statement
   clauses-of : Valid c t r l → Clauses c
-  unfolding oldCommitmentOf pathEndOf hSigOf caseLength proofLength lengths description oldNoteLengths newNoteLengths total
+  unfolding oldCommitmentOf pathEndOf hSigOf
   clauses-of v =
       let e = v .rules .encoding in
       let p = v .rules .public-values in
       let s = v .rules .statement in
       record {
-        whole = e .whole;
+        whole = two-lengths c .1 (e .whole);
         one-sided = p .one-sided;
         old-money = p .old-money;
         new-money = p .new-money;
@@ -73,14 +73,14 @@ module _ (c t r : List ℕ) (l : Ledger) where
 
   -- and with what the ledger's table says of a case that passed, they make it valid
   valid-of : Clauses c → first ledgers .number ≡ 0 → Valid c t r l
-  unfolding oldCommitmentOf pathEndOf hSigOf caseLength proofLength lengths description oldNoteLengths newNoteLengths total None ledgerRefusals rulesIn no2 no3 no6 no8 no17
+  unfolding oldCommitmentOf pathEndOf hSigOf None ledgerRefusals rulesIn no2 no3 no6 no8 no17
   valid-of k h =
       let n = first-none ledgers ledger-numbers h in
       record {
         rules =
             record {
               encoding =
-                  record { whole = k .whole; keys = (k .ranges .0 .0, k .ranges .1 .0); phi = k .phi-free; positions = (k .ranges .0 .1, k .ranges .1 .1) };
+                  record { whole = two-lengths c .0 (k .whole); keys = (k .ranges .0 .0, k .ranges .1 .0); phi = k .phi-free; positions = (k .ranges .0 .1, k .ranges .1 .1) };
               public-values = record { one-sided = k .one-sided; old-money = k .old-money; new-money = k .new-money };
               anchor = among-member (anchorOf c) (anchorRows r l) (not-false (among (anchorOf c) (anchorRows r l)) (n .1 .1 .0));
               distinct = k .distinct;

@@ -9,7 +9,7 @@ use lib.ListN.{length}
 use Rattle.octets.specs.Parts.{same}
 use Rattle.octets.proofs.PartLaws.{field-length}
 use Rattle.units.specs.Pairs.{ForBoth}
-use Rattle.casefile.specs.Layout.{description, oldNoteLengths, newNoteLengths, lengths, proofLength, partOf}
+use Rattle.casefile.specs.Layout.{description, oldNoteLengths, newNoteLengths, lengths, partOf}
 use Rattle.casefile.specs.Fields.{vpubOldOf, vpubNewOf, nullifierOf, commitmentOf}
 use Rattle.ledger.specs.declared.Ledger.{Ledger}
 use Rattle.ledger.specs.Sorted.{insert}
@@ -26,11 +26,11 @@ use Rattle.demands.proofs.Demand2.{accepted-valid}
 
 -- a nullifier and a commitment have 32 bytes
 pub nullifier-long : (c : List ℕ) → ForBoth (λ i. length (nullifierOf i c) ≡ 32)
-unfolding nullifierOf partOf proofLength lengths description oldNoteLengths newNoteLengths
+unfolding nullifierOf partOf lengths description oldNoteLengths newNoteLengths
 nullifier-long c = (field-length _ 32 c, field-length _ 32 c)
 
 pub commitment-long : (c : List ℕ) → ForBoth (λ i. length (commitmentOf i c) ≡ 32)
-unfolding commitmentOf partOf proofLength lengths description oldNoteLengths newNoteLengths
+unfolding commitmentOf partOf lengths description oldNoteLengths newNoteLengths
 commitment-long c = (field-length _ 32 c, field-length _ 32 c)
 
 module _ (c t r : List ℕ) (l : Ledger) (h : answerOf c t r l .number ≡ 0) where

@@ -10,13 +10,12 @@ use mathlib.Core.List.{List, List·Memᴰ, List·Memᴰ·head, List·Memᴰ·tai
 use native.Mathlib.Nat.{lt-of-not-le}
 use native.Mathlib.Decide.{decLe}
 use native.Mathlib.Omega.{arith}
-use borrow.Author.Tests.{eq-eqb}
 use lib.ListN.{length}
 use Rattle.units.specs.Limits.{maxMoney}
 use Rattle.refusals.specs.declared.Answer.{Answer}
 use Rattle.refusals.specs.Rules.{accepted}
-use Rattle.casefile.specs.Layout.{description, oldNoteLengths, newNoteLengths, lengths, total, caseLength, proofLength}
 use Rattle.casefile.specs.Fields.{hasLength, vpubOldOf, vpubNewOf, nullifierOf}
+use Rattle.casefile.proofs.Editions.{two-lengths}
 use Rattle.ledger.specs.Ledgers.{mostNullifiers, roomIn}
 use Rattle.demands.specs.Histories.{judged, Held, spentIn, heldAfter, answerOn, ValidOn, nullifiersOf, AfterOne}
 use Rattle.demands.specs.Pairs.{ShareNone, RoomForTwo, putIn, takenOut, InBounds, PoolForTwo, HasRoom, NoneSpent, PoolTakes}
@@ -25,8 +24,7 @@ use Rattle.demands.proofs.Demand2.{accepted-valid}
 
 -- a valid case has the length of one
 is-long : {b : Held} (c : List ℕ) → ValidOn c b → hasLength c ≡ true
-unfolding hasLength caseLength proofLength lengths description oldNoteLengths newNoteLengths total
-is-long c v = eq-eqb (length c) 4210 (v .rules .encoding .whole)
+is-long c v = two-lengths c .1 (v .rules .encoding .whole)
 
 -- WHAT IS ASKED OF THE POOL, of any two cases, accepted or not: each counts with the public values that it has, and a file of the wrong length with none
 module _ (c d : List ℕ) (b : Held) where

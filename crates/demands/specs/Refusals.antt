@@ -18,7 +18,7 @@ use Rattle.ledger.specs.declared.Ledger.{Ledger}
 use Rattle.ledger.specs.declared.Order.the-variants.{Less}
 use Rattle.ledger.specs.Rows.{byteOrder, rowAt}
 use Rattle.ledger.specs.Ledgers.{mostNullifiers, mostAnchors, roomIn, spentRows, anchorRows}
-use Rattle.demands.specs.Validity.{LeavesFree, oldNote, newNote, valueIn, valueOut, hSig}
+use Rattle.demands.specs.Validity.{LeavesFree, IsWhole, oldNote, newNote, valueIn, valueOut, hSig}
 
 -- DAMAGE. Rows strictly rise: each is below the next
 unfoldable pub Rises : List (List ℕ) → Type 0
@@ -51,7 +51,7 @@ OutOfBounds c l = (l .pool .0 + vpubOldOf c < vpubNewOf c) ⊎ (maxMoney < l .po
 
 unfoldable pub caseSentences : List ℕ → List ℕ → List ℕ → Ledger → List Sentence
 caseSentences c t r l =
-    refuse 1 0 (length c ≡ 4210 → ⊥)
+    refuse 1 0 (IsWhole c → ⊥)
     ∷ refuse 2 0 (Damaged t r l)
     ∷ refuse 3 0 (roomIn mostNullifiers (length t) < l .nullifiers + 2)
     ∷ refuse 4 0 ((vpubOldOf c ≡ 0 → ⊥) × (vpubNewOf c ≡ 0 → ⊥))

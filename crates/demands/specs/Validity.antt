@@ -46,9 +46,13 @@ pub record Statement (c : List ℕ) : Type 0 where
   pub uniqueness-of-rho : ForBoth (λ i. newRhoOf i c ≡ rhoFrom i (phiOf c) (hSig c))
   pub commitment-integrity : ForBoth (λ i. commitmentOf i c ≡ newNote i c)
 
+-- THE LENGTH of a whole file, in the first edition of the description or in the second
+abbrev pub IsWhole : List ℕ → Type 0
+IsWhole c = (length c ≡ 4210) ⊎ (length c ≡ 4106)
+
 -- THE ENCODING: a whole file; keys of 252 bits, and as many of phi, from which the new notes' rho are seeded; positions of the tree
 pub record Encoded (c : List ℕ) : Type 0 where
-  pub whole : length c ≡ 4210
+  pub whole : IsWhole c
   pub keys : ForBoth (λ i. LeavesFree (oldKeyOf i c))
   pub phi : LeavesFree (phiOf c)
   pub positions : ForBoth (λ i. oldPositionOf i c < treeLeaves)

@@ -1,11 +1,114 @@
-//! The case file: 4,210 bytes, and what stands where.
+//! The case file in its two editions, and what stands where.
+
+use std::fmt;
 
 use crate::bytes::{Bytes32, Reader};
 use crate::hashes;
 use crate::tree::{Path, DEPTH};
 
-/// The length of a case file.
-pub const CASE_BYTES: usize = 4_210;
+/// An edition of the description. The two differ in the length of the proof, and
+/// so in where the fields behind it stand.
+#[derive(Clone, Copy, Debug, PartialEq, Eq, PartialOrd, Ord)]
+pub enum Edition {
+    /// A proof of 296 bytes.
+    First,
+    /// A proof of 192 bytes.
+    Second,
+}
+
+impl Edition {
+    /// Both.
+    pub const ALL: [Edition; 2] = [Edition::First, Edition::Second];
+
+    /// The length of a case file.
+    pub const fn case_bytes(self) -> usize {
+        match self {
+            Edition::First => 4_210,
+            Edition::Second => 4_106,
+        }
+    }
+
+    /// The length of a proof.
+    pub const fn proof_bytes(self) -> usize {
+        match self {
+            Edition::First => 296,
+            Edition::Second => 192,
+        }
+    }
+
+    /// The edition of a case file of this length. Nothing else says it.
+    pub fn of_length(length: usize) -> Option<Edition> {
+        let mut editions = Edition::ALL.into_iter();
+        editions.find(|edition| edition.case_bytes() == length)
+    }
+
+    /// The other one.
+    pub fn other(self) -> Edition {
+        match self {
+            Edition::First => Edition::Second,
+            Edition::Second => Edition::First,
+        }
+    }
+}
+
+impl fmt::Display for Edition {
+    fn fmt(&self, out: &mut fmt::Formatter<'_>) -> fmt::Result {
+        out.write_str(match self {
+            Edition::First => "first",
+            Edition::Second => "second",
+        })
+    }
+}
+
+/// A proof of either edition.
+#[derive(Clone, Debug, PartialEq, Eq)]
+pub enum Proof {
+    /// One of the first edition.
+    First([u8; Edition::First.proof_bytes()]),
+    /// One of the second edition.
+    Second([u8; Edition::Second.proof_bytes()]),
+}
+
+impl Proof {
+    /// A proof of zero bytes.
+    pub fn zeroed(edition: Edition) -> Proof {
+        match edition {
+            Edition::First => Proof::First([0; Edition::First.proof_bytes()]),
+            Edition::Second => Proof::Second([0; Edition::Second.proof_bytes()]),
+        }
+    }
+
+    fn read(reader: &mut Reader, edition: Edition) -> Option<Proof> {
+        Some(match edition {
+            Edition::First => Proof::First(reader.take()?),
+            Edition::Second => Proof::Second(reader.take()?),
+        })
+    }
+
+    /// The edition that it is of.
+    pub fn edition(&self) -> Edition {
+        match self {
+            Proof::First(_) => Edition::First,
+            Proof::Second(_) => Edition::Second,
+        }
+    }
+
+    /// Its bytes.
+    pub fn bytes(&self) -> &[u8] {
+        match self {
+            Proof::First(bytes) => bytes,
+            Proof::Second(bytes) => bytes,
+        }
+    }
+
+    /// Its bytes, to be changed.
+    pub fn bytes_mut(&mut self) -> &mut [u8] {
+        match self {
+            Proof::First(bytes) => bytes,
+            Proof::Second(bytes) => bytes,
+        }
+    }
+}
 
 /// The most that a public value may be: 2,100,000,000,000,000.
 pub const MAX_MONEY: Amount = Amount(2_100_000_000_000_000);
@@ -108,8 +211,8 @@ pub struct Case {
     pub seed: Bytes32,
     /// The tags h_1 and h_2.
     pub tags: [Bytes32; 2],
-    /// Carried, never checked.
-    pub proof: [u8; 296],
+    /// Carried, never checked. It says the case's edition.
+    pub proof: Proof,
     /// Carried, never checked.
     pub ciphertexts: [[u8; 601]; 2],
     /// The transaction's public key.
@@ -125,14 +228,26 @@ pub struct Case {
 impl Case {
     /// Reads a case; only its length can be wrong.
     pub fn read(file: &[u8]) -> Option<Case> {
+        let edition = Edition::of_length(file.len())?;
         let mut reader = Reader::new(file);
-        let case = read_case(&mut reader)?;
+        let case = read_case(&mut reader, edition)?;
         reader.is_done().then_some(case)
+    }
+
+    /// The edition that the case is in.
+    pub fn edition(&self) -> Edition {
+        self.proof.edition()
+    }
+
+    /// The case with another proof, and so perhaps in the other edition. All else
+    /// is as it was.
+    pub fn with_proof(self, proof: Proof) -> Case {
+        Case { proof, ..self }
     }
 
     /// The case file.
     pub fn to_bytes(&self) -> Vec<u8> {
-        let mut file = Vec::with_capacity(CASE_BYTES);
+        let mut file = Vec::with_capacity(self.edition().case_bytes());
         self.write_description(&mut file);
         file.extend(self.transaction_key);
         self.old.iter().for_each(|note| write_old(&mut file, note));
@@ -150,7 +265,7 @@ impl Case {
         file.extend(self.ephemeral_key);
         file.extend(self.seed);
         file.extend(self.tags.as_flattened());
-        file.extend(self.proof);
+        file.extend(self.proof.bytes());
         file.extend(self.ciphertexts.as_flattened());
     }
 
@@ -176,7 +291,7 @@ impl Case {
 }
 
 /// The fields stand in the file in the order of the struct.
-fn read_case(reader: &mut Reader) -> Option<Case> {
+fn read_case(reader: &mut Reader, edition: Edition) -> Option<Case> {
     Some(Case {
         vpub_old: Amount(reader.u64()?),
         vpub_new: Amount(reader.u64()?),
@@ -186,7 +301,7 @@ fn read_case(reader: &mut Reader) -> Option<Case> {
         ephemeral_key: reader.take()?,
         seed: reader.take()?,
         tags: [reader.take()?, reader.take()?],
-        proof: reader.take()?,
+        proof: Proof::read(reader, edition)?,
         ciphertexts: [reader.take()?, reader.take()?],
         transaction_key: reader.take()?,
         old: [read_old(reader)?, read_old(reader)?],

@@ -45,7 +45,7 @@ const fn rule(number: u8, place: u8, applies: fn(&Ledger, &Case) -> bool) -> Rul
     }
 }
 
-/// The refusals of a case of the right length, in order.
+/// The refusals of a case of either length, in order. None asks for its edition.
 pub const RULES: [Rule; 26] = [
     rule(2, 0, |ledger, _| ledger.is_damaged()),
     rule(3, 0, |ledger, _| ledger.free_table_rows() < 2),

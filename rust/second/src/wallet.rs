@@ -1,7 +1,7 @@
 //! Notes and the cases that spend and create them.
 
 use crate::bytes::Bytes32;
-use crate::case::{Amount, Case, NewNote, OldNote, Position, MAX_SUM};
+use crate::case::{Amount, Case, Edition, NewNote, OldNote, Position, Proof, MAX_SUM};
 use crate::hashes;
 use crate::random::Random;
 use crate::tree::{Path, FULL};
@@ -84,7 +84,26 @@ pub struct Plan {
     pub new: [(Bytes32, Amount); 2],
 }
 
-/// The case of a plan, everything that can be worked out being right.
+/// A random proof of this edition.
+pub fn proof_of(random: &mut Random, edition: Edition) -> Proof {
+    let mut proof = Proof::zeroed(edition);
+    random.fill(proof.bytes_mut());
+    proof
+}
+
+/// A random proof of either edition.
+pub fn any_proof(random: &mut Random) -> Proof {
+    let edition = *random.pick(&Edition::ALL);
+    proof_of(random, edition)
+}
+
+/// The same case in this edition, with another proof.
+pub fn in_edition(random: &mut Random, case: &Case, edition: Edition) -> Case {
+    case.clone().with_proof(proof_of(random, edition))
+}
+
+/// The case of a plan, everything that can be worked out being right. Its edition
+/// is as the dice say.
 pub fn write_case(random: &mut Random, plan: Plan) -> Case {
     let mut case = Case {
         vpub_old: plan.vpub_old,
@@ -95,7 +114,7 @@ pub fn write_case(random: &mut Random, plan: Plan) -> Case {
         ephemeral_key: random.bytes(),
         seed: random.bytes(),
         tags: [[0; 32]; 2],
-        proof: random.bytes(),
+        proof: any_proof(random),
         ciphertexts: [random.bytes(), random.bytes()],
         transaction_key: random.bytes(),
         old: plan.old,

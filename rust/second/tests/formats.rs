@@ -11,14 +11,14 @@ use std::path::Path;
 use common::Shift;
 use second::answer::Answer;
 use second::bag::{judge_bag, write_bag, MAX_BAG_BYTES};
-use second::case::{Amount, Case, NewNote, OldNote, Position};
+use second::case::{Amount, Case, Edition, NewNote, OldNote, Position};
 use second::judge::judge;
 use second::ledger::{Ledger, MAX_ANCHORS, MAX_POOL, MAX_SPENT, ROW_BYTES};
 use second::random::Random;
 use second::seal::{Gate, Seal};
 use second::tape::plant_body;
 use second::tree::{empty_root, Record, DEPTH};
-use second::wallet::{idle_note, write_case, Plan};
+use second::wallet::{idle_note, in_edition, write_case, Plan};
 
 /// One line of a drawing. An offset or a length that is no plain number stays
 /// as it is written.
@@ -72,18 +72,19 @@ fn paper() -> String {
 }
 
 /// The paper's drawings, in its order.
-fn drawings() -> [Vec<Line>; 11] {
+fn drawings() -> [Vec<Line>; 12] {
     let paper = paper();
     let fenced = paper.split("```\n").skip(1).step_by(2);
     let drawings: Vec<_> = fenced
         .map(|drawing| drawing.lines().map(Line::read).collect())
         .collect();
-    drawings.try_into().expect("eleven drawings")
+    drawings.try_into().expect("twelve drawings")
 }
 
 /// What each part's own drawing says.
 struct Formats {
-    case: Vec<Line>,
+    first_case: Vec<Line>,
+    second_case: Vec<Line>,
     old_note: Vec<Line>,
     new_note: Vec<Line>,
     bag: Vec<Line>,
@@ -98,27 +99,29 @@ struct Formats {
 
 impl Formats {
     fn read() -> Formats {
-        let [case, old_note, new_note, bag, row, seal, record, ledger, report, tally, day_row] =
-            drawings();
+        let mut drawings = drawings().into_iter();
+        let mut next = || drawings.next().expect("a drawing");
         Formats {
-            case,
-            old_note,
-            new_note,
-            bag,
-            row,
-            seal,
-            record,
-            ledger,
-            report,
-            tally,
-            day_row,
+            first_case: next(),
+            second_case: next(),
+            old_note: next(),
+            new_note: next(),
+            bag: next(),
+            row: next(),
+            seal: next(),
+            record: next(),
+            ledger: next(),
+            report: next(),
+            tally: next(),
+            day_row: next(),
         }
     }
 
     /// All but the bag's, whose length is not fixed.
-    fn fixed(&self) -> [&[Line]; 10] {
+    fn fixed(&self) -> [&[Line]; 11] {
         [
-            &self.case,
+            &self.first_case,
+            &self.second_case,
             &self.old_note,
             &self.new_note,
             &self.row,
@@ -131,8 +134,18 @@ impl Formats {
         ]
     }
 
+    /// The drawing of a case file of this edition.
+    fn case(&self, edition: Edition) -> &[Line] {
+        match edition {
+            Edition::First => &self.first_case,
+            Edition::Second => &self.second_case,
+        }
+    }
+
     fn case_file(&self, case: &Case) -> Vec<u8> {
-        filled(&self.case, |name| self.case_field(case, name))
+        filled(self.case(case.edition()), |name| {
+            self.case_field(case, name)
+        })
     }
 
     fn case_field(&self, case: &Case, name: &str) -> Vec<u8> {
@@ -148,7 +161,7 @@ impl Formats {
             "seed" => case.seed.into(),
             "tag 1" => case.tags[0].into(),
             "tag 2" => case.tags[1].into(),
-            "proof" => case.proof.into(),
+            "proof" => case.proof.bytes().into(),
             "ciphertext 1" => case.ciphertexts[0].into(),
             "ciphertext 2" => case.ciphertexts[1].into(),
             "transaction key" => case.transaction_key.into(),
@@ -314,8 +327,8 @@ fn written(number: usize) -> String {
     }
 }
 
-/// A case that a fresh ledger accepts: 10,000 go in.
-fn fresh_case() -> Case {
+/// A case of this edition that a fresh ledger accepts: 10,000 go in.
+fn fresh_case(edition: Edition) -> Case {
     let mut random = Random::new(11);
     let plan = Plan {
         vpub_old: Amount(10_000),
@@ -324,7 +337,8 @@ fn fresh_case() -> Case {
         old: [idle_note(&mut random), idle_note(&mut random)],
         new: [(random.bytes(), Amount(9_999)), (random.bytes(), Amount(1))],
     };
-    write_case(&mut random, plan)
+    let case = write_case(&mut random, plan);
+    in_edition(&mut random, &case, edition)
 }
 
 #[test]
@@ -358,38 +372,62 @@ fn offsets_and_lengths_add_up_to_the_end() {
 #[test]
 fn a_drawing_in_a_drawing_has_the_room_that_is_left_for_it() {
     let formats = Formats::read();
-    for (outer, name, inner) in [
-        (&formats.case, "old note 1", &formats.old_note),
-        (&formats.case, "old note 2", &formats.old_note),
-        (&formats.case, "new note 1", &formats.new_note),
-        (&formats.case, "new note 2", &formats.new_note),
-        (&formats.bag, "row 1", &formats.row),
-        (&formats.bag, "row 2", &formats.row),
-    ] {
-        assert_eq!(
-            line(outer, name).length(),
-            fields_and_end(inner).1,
-            "{name}"
-        );
+    let check = |outer: &[Line], name: &str, inner: &[Line]| {
+        let room = line(outer, name).length();
+        assert_eq!(room, fields_and_end(inner).1, "{name}");
+    };
+    for case in [&formats.first_case, &formats.second_case] {
+        check(case, "old note 1", &formats.old_note);
+        check(case, "old note 2", &formats.old_note);
+        check(case, "new note 1", &formats.new_note);
+        check(case, "new note 2", &formats.new_note);
     }
+    check(&formats.bag, "row 1", &formats.row);
+    check(&formats.bag, "row 2", &formats.row);
     let path = &line(&formats.old_note, "path").length;
     assert_eq!(count_and_width(path), Some((DEPTH, ROW_BYTES)));
     let nodes = &line(&formats.record, "nodes").length;
     assert_eq!(count_and_width(nodes), Some((DEPTH + 1, ROW_BYTES)));
 }
 
+/// Where a drawing ends, as the paper writes it.
+fn written_end(drawing: &[Line]) -> String {
+    written(fields_and_end(drawing).1)
+}
+
+/// What the paper says of the two editions of a case.
+fn sentences_of_editions(first: &[Line], second: &[Line]) -> [String; 4] {
+    let [long, short] = [first, second].map(written_end);
+    let [longer, shorter] = [first, second].map(|case| line(case, "proof").length());
+    let said_of = |edition: &str, case: &[Line]| {
+        let description = written(line(case, "transaction key").offset());
+        let end = written_end(case);
+        format!(
+            "The {edition} edition: {end} bytes, \
+             of which the description is {description}.\n\n```\n"
+        )
+    };
+    let moved = longer - shorter;
+    [
+        format!("## The case file: {long} or {short} bytes\n"),
+        said_of("first", first),
+        said_of("second", second),
+        format!("all that stands behind the proof starts {moved} bytes earlier"),
+    ]
+}
+
 #[test]
 fn the_words_around_the_drawings_give_the_same_numbers() {
     let formats = Formats::read();
-    let end = |drawing: &[Line]| written(fields_and_end(drawing).1);
-    let description = line(&formats.case, "transaction key").offset();
+    let of_editions = sentences_of_editions(&formats.first_case, &formats.second_case);
     let sentences = [
-        format!("## The case file: {} bytes\n", end(&formats.case)),
-        format!("The public description ({})", written(description)),
         format!("## The bag: at most {} bytes\n", written(MAX_BAG_BYTES)),
-        format!("## The seal: {} bytes\n", end(&formats.seal)),
-        format!("## The tree record: {} bytes\n", end(&formats.record)),
-        format!("## The ledger as bytes: {}\n", end(&formats.ledger)),
+        format!("## The seal: {} bytes\n", written_end(&formats.seal)),
+        format!(
+            "## The tree record: {} bytes\n",
+            written_end(&formats.record)
+        ),
+        format!("## The ledger as bytes: {}\n", written_end(&formats.ledger)),
         format!("Row {DEPTH} holds the full tree's root."),
         format!("Rows of {ROW_BYTES} bytes"),
         format!("the length divided by {ROW_BYTES}"),
@@ -399,33 +437,71 @@ fn the_words_around_the_drawings_give_the_same_numbers() {
             written(MAX_ANCHORS)
         ),
     ];
-    for sentence in sentences {
-        assert!(paper().contains(&sentence), "not in the paper: {sentence}");
+    for sentence in of_editions.iter().chain(&sentences) {
+        assert!(paper().contains(sentence), "not in the paper: {sentence}");
     }
 }
 
 #[test]
 fn a_case_by_the_paper_is_the_one_that_is_written_here() {
     let formats = Formats::read();
-    assert_eq!(formats.case_file(&fresh_case()), fresh_case().to_bytes());
+    for edition in Edition::ALL {
+        let case = fresh_case(edition);
+        assert_eq!(formats.case_file(&case), case.to_bytes(), "{edition}");
+    }
+}
+
+#[test]
+fn the_editions_are_drawn_alike_but_for_the_proof_and_what_is_moved_by_it() {
+    let formats = Formats::read();
+    let (first, second) = (&formats.first_case, &formats.second_case);
+    let words = |line: &Line| (line.name.clone(), line.note.clone());
+    assert!(first.iter().map(words).eq(second.iter().map(words)));
+    let is_proof = |line: &Line| line.name == "proof";
+    let proof = first.iter().position(is_proof).expect("a proof");
+    for (index, (one, other)) in first.iter().zip(second).enumerate() {
+        let moved = if index > proof { 104 } else { 0 };
+        assert_eq!(one.offset(), other.offset() + moved, "{}", one.name);
+        assert_eq!(one.length == other.length, index != proof, "{}", one.name);
+    }
 }
 
 #[test]
 fn a_case_with_paths_by_the_paper_is_accepted() {
     let formats = Formats::read();
-    let mut shift = Shift::busy(12);
-    let mut with_value = 0;
-    for _ in 0..20 {
+    let mut shift = Shift::busy(17);
+    let mut with_value = [0; 2];
+    for edition in Edition::ALL.into_iter().cycle().take(40) {
         let case = shift.good_case();
+        let case = in_edition(&mut shift.random, &case, edition);
         let file = formats.case_file(&case);
         assert_eq!(file, case.to_bytes());
         let mut ledger = shift.ledger.clone();
         assert_eq!(judge(&mut ledger, &file), Answer::PASSED);
         let valued = case.old.iter().filter(|note| note.value != Amount::ZERO);
-        with_value += valued.count();
+        with_value[edition as usize] += valued.count();
     }
     // Where no old note has a value, no path is climbed.
-    assert!(with_value > 0);
+    assert!(with_value.iter().all(|times| *times > 0), "{with_value:?}");
+}
+
+#[test]
+fn a_case_of_any_other_length_than_those_drawn_is_refused_as_the_paper_says() {
+    let formats = Formats::read();
+    let rest = paper();
+    let (_, behind) = rest
+        .split_once("any other length is refusal ")
+        .expect("a refusal");
+    let (number, _) = behind.split_once('.').expect("the end of a sentence");
+    let refused = Answer::new(number.parse().expect("a number"), 0);
+    for edition in Edition::ALL {
+        let file = formats.case_file(&fresh_case(edition));
+        let (mut ledger, _) = Ledger::open(vec![0; 64], vec![0; 32]);
+        let longer = [&file[..], &[0]].concat();
+        assert_eq!(judge(&mut ledger, &file[..file.len() - 1]), refused);
+        assert_eq!(judge(&mut ledger, &longer), refused);
+        assert_eq!(judge(&mut ledger, &file), Answer::PASSED);
+    }
 }
 
 #[test]
@@ -470,16 +546,23 @@ fn seals_by_the_paper_are_those_that_are_written_here() {
 fn a_bag_by_the_paper_is_the_one_that_is_written_here_and_is_accepted() {
     let formats = Formats::read();
     let seal = formats.seal_body("between", [40.0, 52.0, 51.0]);
-    let case = formats.case_file(&fresh_case());
-    let bag = formats.bag(&[seal.clone(), case.clone(), case.clone()]);
-    assert_eq!(bag, write_bag(&seal, &[&case, &case]));
-    let expected = [
-        "seal 0 0",
-        "case 0 0",
-        "case 8 1",
-        "ledger spent 2 leaves 2 pool 10000",
-    ];
-    assert_eq!(judge_bag(&bag), expected);
+    for editions in [
+        [Edition::First, Edition::First],
+        [Edition::First, Edition::Second],
+        [Edition::Second, Edition::First],
+        [Edition::Second, Edition::Second],
+    ] {
+        let [one, again] = editions.map(|edition| formats.case_file(&fresh_case(edition)));
+        let bag = formats.bag(&[seal.clone(), one.clone(), again.clone()]);
+        assert_eq!(bag, write_bag(&seal, &[&one, &again]));
+        let expected = [
+            "seal 0 0",
+            "case 0 0",
+            "case 8 1",
+            "ledger spent 2 leaves 2 pool 10000",
+        ];
+        assert_eq!(judge_bag(&bag), expected, "{editions:?}");
+    }
 }
 
 #[test]

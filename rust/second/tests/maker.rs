@@ -6,7 +6,7 @@ use std::sync::OnceLock;
 
 use second::answer::{Answer, Row, SPENT};
 use second::bytes::{hex, Bytes32, Reader};
-use second::case::{Case, MAX_SUM};
+use second::case::{Case, Edition, MAX_SUM};
 use second::hashes;
 use second::judge::{all_refusals, first_refusal, judge, Rule, RULES};
 use second::ledger::{Ledger, MAX_POOL, ROW_BYTES};
@@ -52,16 +52,23 @@ fn wanted_answers() -> Vec<(&'static str, Answer)> {
 }
 
 #[test]
-fn a_tape_of_600_entries_reaches_everything_in_2500_kilobytes() {
+fn a_tape_of_600_entries_reaches_everything_in_3000_kilobytes() {
     for (seed, tape) in tapes() {
-        assert!(tape.bytes.len() < 2_500_000, "seed {seed}");
+        assert!(tape.bytes.len() < 3_000_000, "seed {seed}");
         for (kind, answer) in wanted_answers() {
             let times = tape.coverage.times(kind, answer);
             assert!(times > 0, "seed {seed}: {kind} {answer}");
         }
         for bend in BENDS {
-            let times = tape.coverage.times_made_for(bend.name);
-            assert!(times > 0, "seed {seed}: {}", bend.name);
+            for edition in Edition::ALL {
+                let times = tape.coverage.times_made_in(edition, bend.name);
+                assert!(times > 0, "seed {seed}: {} ({edition})", bend.name);
+            }
+        }
+        for length in [0, 1, 4_105, 4_107, 4_209, 4_211] {
+            let purpose = format!("case of {length} bytes");
+            let times = tape.coverage.times_made_for(&purpose);
+            assert!(times > 0, "seed {seed}: {purpose}");
         }
         for tamper in TAMPERS {
             let purpose = format!("planted: {}", tamper.name);
@@ -152,6 +159,39 @@ fn a_tape_tells_judges_that_drop_or_swap_a_rule() {
             // Both public values cannot be too high without refusal 4.
             let is_exempt = rule.answer == Answer::new(5, 2);
             assert_eq!(is_told(&swapped), !is_exempt, "{} first", rule.answer);
+        }
+    }
+}
+
+/// The cases on a tape in this edition, each with the ledger it came to.
+fn judged_in(edition: Edition, tape: &[u8]) -> Vec<(Ledger, Case)> {
+    let mut judged = judged_cases(tape);
+    judged.retain(|(_, case)| case.edition() == edition);
+    judged
+}
+
+#[test]
+fn a_tape_finds_judges_that_drop_a_rule_or_compare_too_little_in_one_edition() {
+    // Rows off by one byte, and roots off by one, come in either edition by the dice.
+    let in_both = |rule: &(u8, u8, Partly)| ![2, 10].contains(&rule.0);
+    for (seed, tape) in tapes() {
+        for edition in Edition::ALL {
+            let judged = judged_in(edition, &tape.bytes);
+            for Rule { answer, .. } in RULES {
+                let is_found = is_found(&judged, answer, |_, _| false);
+                assert!(is_found, "seed {seed}: {answer}, {edition} edition");
+            }
+            for (number, place, partly) in COMPARING.into_iter().filter(in_both) {
+                let answer = Answer::new(number, place);
+                for seen in [0..31, 1..32] {
+                    let other = |ledger: &Ledger, case: &Case| partly(ledger, case, seen.clone());
+                    let is_found = is_found(&judged, answer, other);
+                    assert!(
+                        is_found,
+                        "seed {seed}: {answer} {seen:?}, {edition} edition"
+                    );
+                }
+            }
         }
     }
 }
@@ -478,8 +518,11 @@ fn sides(case: &Case) -> [[u64; 3]; 2] {
     [paid, made].map(|amounts| amounts.map(|amount| amount.0))
 }
 
+/// Whether a wrong judge takes a case to be above the ceiling.
+type Ceiling = fn(&Case) -> bool;
+
 /// Ways to be above the ceiling that are wrong, each with its name.
-const CEILINGS: [(&str, fn(&Case) -> bool); 7] = [
+const CEILINGS: [(&str, Ceiling); 7] = [
     ("no ceiling", |_| false),
     ("below, not at most", |case| case.value_in() >= MAX_SUM),
     ("one too high", |case| case.value_in() > MAX_SUM + 1),
@@ -1080,18 +1123,27 @@ fn a_tape_of_600_entries_shows_the_pools_of_its_pool_runs() {
     }
 }
 
+/// The last line of a run that begins with this word.
+fn last_line<'a>(lines: &'a [String], run: &str, word: &str) -> &'a str {
+    let of_word = lines_of(lines, run).filter(|line| line.starts_with(word));
+    of_word.last().expect("a line of this kind")
+}
+
+/// Two runs that leave the same table and roll, and other nodes of the record.
+fn check_orders(seed: u64, tape: &Tape, runs: [&str; 2]) {
+    let [one, other] = runs.map(|run| {
+        let words = last_line(&tape.lines, run, "memory ").split(' ');
+        words.collect::<Vec<&str>>()
+    });
+    assert_eq!(one[..3], other[..3], "seed {seed}: table and roll");
+    assert_ne!(one[3], other[3], "seed {seed}: the record's nodes");
+}
+
 #[test]
-fn in_either_order_the_pool_runs_that_pass_leave_the_same_table_and_roll() {
+fn in_either_order_the_runs_that_pass_leave_the_same_table_and_roll() {
     for (seed, tape) in tapes() {
-        let lines = &tape.lines;
-        let [one, other] = ["pool-order-met-c-d", "pool-order-met-d-c"].map(|run| {
-            let is_memory = |line: &&str| line.starts_with("memory ");
-            let memory = lines_of(lines, run).filter(is_memory).last();
-            let words = memory.expect("a look at the memory").split(' ');
-            words.map(str::to_owned).collect::<Vec<String>>()
-        });
-        assert_eq!(one[..3], other[..3], "seed {seed}: table and roll");
-        assert_ne!(one[3], other[3], "seed {seed}: the record's nodes");
+        check_orders(seed, tape, ["pool-order-met-c-d", "pool-order-met-d-c"]);
+        check_orders(seed, tape, ["edition-order-c-d", "edition-order-d-c"]);
     }
 }
 
@@ -1242,6 +1294,583 @@ fn the_pool_runs_of_a_tape_find_pools_that_are_wrongly_taken_for_damage_or_not()
         assert!(!found(|ledger| ledger.pool > MAX_POOL), "the right way");
         for (name, wrong) in WRONG_DAMAGES {
             assert!(found(wrong), "seed {seed}: a pool that {name}");
+        }
+    }
+}
+
+/// The runs for the two editions: how long their files are, what their cases and
+/// closings are answered, and what their ledgers have in the pool.
+const EDITION_RUNS: [(&str, &[usize], &[&str]); 11] = [
+    (
+        "edition-lengths",
+        &[4_209, 4_211, 4_105, 4_107, 4_106, 4_210, 4_210, 4_106],
+        &[
+            "case 1 0", "case 1 0", "case 1 0", "case 1 0", "case 9 1", "case 9 1", "case 0 0",
+            "case 0 0", "pool 20",
+        ],
+    ),
+    (
+        "edition-second-spends-first",
+        &[4_210, 4_106, 4_210],
+        &[
+            "case 0 0",
+            "block 0 0",
+            "case 0 0",
+            "case 8 1",
+            "row 1",
+            "pool 25",
+        ],
+    ),
+    (
+        "edition-first-spends-second",
+        &[4_106, 4_210, 4_106],
+        &[
+            "case 0 0",
+            "block 0 0",
+            "case 0 0",
+            "case 8 1",
+            "row 1",
+            "pool 25",
+        ],
+    ),
+    (
+        "edition-same-case-first",
+        &[4_210, 4_210, 4_106],
+        &["case 16 2", "case 0 0", "pool 10", "case 8 1", "row 4"],
+    ),
+    (
+        "edition-same-case-second",
+        &[4_106, 4_106, 4_210],
+        &["case 16 2", "case 0 0", "pool 10", "case 8 1", "row 4"],
+    ),
+    (
+        "edition-carried-first",
+        &[4_210; 4],
+        &["case 14 1", "case 14 2", "case 14 1", "case 0 0", "pool 10"],
+    ),
+    (
+        "edition-carried-second",
+        &[4_106; 4],
+        &["case 14 1", "case 14 2", "case 14 1", "case 0 0", "pool 10"],
+    ),
+    (
+        "edition-order-c-d",
+        &[4_210, 4_106],
+        &["case 0 0", "case 0 0", "pool 2"],
+    ),
+    (
+        "edition-order-d-c",
+        &[4_106, 4_210],
+        &["case 0 0", "case 0 0", "pool 2"],
+    ),
+    (
+        "edition-shared-c-d",
+        &[4_210, 4_106],
+        &["case 0 0", "case 8 2", "row 4", "pool 6"],
+    ),
+    (
+        "edition-shared-d-c",
+        &[4_106, 4_210],
+        &["case 0 0", "case 8 1", "row 4", "pool 5"],
+    ),
+];
+
+#[test]
+fn a_tape_of_600_entries_shows_the_answers_of_its_edition_runs() {
+    for (seed, tape) in tapes() {
+        for (run, lengths, expected) in EDITION_RUNS {
+            let said = lines_of(&tape.lines, run).filter_map(said_of_pool);
+            assert_eq!(said.collect::<Vec<_>>(), expected, "seed {seed}: {run}");
+            let entries = entries_of(&tape.bytes, run).into_iter();
+            let files = entries.filter(|(kind, _)| *kind == b'C');
+            let made: Vec<usize> = files.map(|(_, file)| file.len()).collect();
+            assert_eq!(made, lengths, "seed {seed}: {run}");
+        }
+    }
+}
+
+#[test]
+fn one_case_leaves_the_same_ledger_and_memory_in_both_editions() {
+    for (seed, tape) in tapes() {
+        for word in ["ledger ", "memory "] {
+            let [first, others @ ..] = [
+                "edition-same-case-first",
+                "edition-same-case-second",
+                "edition-carried-first",
+                "edition-carried-second",
+            ]
+            .map(|run| last_line(&tape.lines, run, word));
+            assert!(others.iter().all(|other| *other == first), "seed {seed}");
+        }
+    }
+}
+
+/// A file that came to a judge.
+struct Filed {
+    ledger: Ledger,
+    /// The files of a right length that came to that ledger before it.
+    before: Vec<Vec<u8>>,
+    file: Vec<u8>,
+}
+
+/// The files of those of a tape's runs that are meant by their names.
+fn filed(tape: &[u8], is_meant: impl Fn(&str) -> bool) -> Vec<Filed> {
+    let mut player = Player::new();
+    let (mut is_in, mut before, mut filed) = (false, Vec::new(), Vec::new());
+    for (kind, body) in before_depots(tape) {
+        match kind {
+            b'N' => is_in = is_meant(std::str::from_utf8(body).expect("a name")),
+            b'O' | b'F' | b'P' | b'K' => before.clear(),
+            b'C' => {
+                if is_in {
+                    filed.push(Filed {
+                        ledger: player.ledger.clone(),
+                        before: before.clone(),
+                        file: body.to_vec(),
+                    });
+                }
+                if Case::read(body).is_some() {
+                    before.push(body.to_vec());
+                }
+            }
+            _ => (),
+        }
+        if player.play(kind, body).is_none() {
+            break;
+        }
+    }
+    filed
+}
+
+/// The files of a tape's runs for the two editions.
+fn filed_in_edition_runs(tape: &[u8]) -> Vec<Filed> {
+    filed(tape, |run| {
+        EDITION_RUNS.iter().any(|(name, ..)| *name == run)
+    })
+}
+
+impl Filed {
+    /// What a judge answers that reads this for the file.
+    fn answer_to(&self, read: Option<Case>) -> Answer {
+        match read {
+            None => Answer::new(1, 0),
+            Some(case) => first_refusal(&self.ledger, &case).unwrap_or(Answer::PASSED),
+        }
+    }
+
+    fn right_answer(&self) -> Answer {
+        self.answer_to(Case::read(&self.file))
+    }
+
+    /// Whether a judge that reads files in another way answers otherwise.
+    fn tells(&self, read: impl Fn(&Filed) -> Option<Case>) -> bool {
+        self.answer_to(read(self)) != self.right_answer()
+    }
+}
+
+/// A field behind the proof: its name, where it starts in the first edition, and
+/// how long it is.
+type Field = (&'static str, usize, usize);
+
+const BEHIND_THE_PROOF: [Field; 24] = [
+    ("transaction key", 1_802, 32),
+    ("key 1", 1_834, 32),
+    ("address 1", 1_866, 32),
+    ("old value 1", 1_898, 8),
+    ("old rho 1", 1_906, 32),
+    ("old trapdoor 1", 1_938, 32),
+    ("position 1", 1_970, 4),
+    ("path 1", 1_974, 928),
+    ("key 2", 2_902, 32),
+    ("address 2", 2_934, 32),
+    ("old value 2", 2_966, 8),
+    ("old rho 2", 2_974, 32),
+    ("old trapdoor 2", 3_006, 32),
+    ("position 2", 3_038, 4),
+    ("path 2", 3_042, 928),
+    ("new address 1", 3_970, 32),
+    ("new value 1", 4_002, 8),
+    ("new rho 1", 4_010, 32),
+    ("new trapdoor 1", 4_042, 32),
+    ("new address 2", 4_074, 32),
+    ("new value 2", 4_106, 8),
+    ("new rho 2", 4_114, 32),
+    ("new trapdoor 2", 4_146, 32),
+    ("phi", 4_178, 32),
+];
+
+/// Where a judge reads a field in a file, by its place in the first edition.
+type Placing = fn(usize, Edition) -> usize;
+
+/// Places that are wrong, each with its name.
+const WRONG_PLACES: [(&str, Placing); 5] = [
+    ("is not moved", |first, _| first),
+    ("is moved in both", |first, _| first - 104),
+    ("is moved the wrong way", |first, edition| match edition {
+        Edition::First => first,
+        Edition::Second => first + 104,
+    }),
+    ("is moved by a byte less", |first, edition| match edition {
+        Edition::First => first,
+        Edition::Second => first - 103,
+    }),
+    ("is moved by a byte more", |first, edition| match edition {
+        Edition::First => first,
+        Edition::Second => first - 105,
+    }),
+];
+
+/// Where the fields behind the proof are.
+const RIGHT_PLACE: Placing = |first, edition| match edition {
+    Edition::First => first,
+    Edition::Second => first - 104,
+};
+
+/// The case as a judge reads it that has these fields elsewhere. Past the end of a
+/// file there are zero bytes.
+fn read_elsewhere(file: &[u8], fields: &[Field], place: Placing) -> Option<Case> {
+    let edition = Edition::of_length(file.len())?;
+    let mut longer = file.to_vec();
+    longer.resize(5_000, 0);
+    let mut read = file.to_vec();
+    for (_, first, length) in fields {
+        let (from, to) = (place(*first, edition), RIGHT_PLACE(*first, edition));
+        read[to..to + length].copy_from_slice(&longer[from..from + length]);
+    }
+    Case::read(&read)
+}
+
+#[test]
+fn the_edition_runs_of_a_tape_find_each_field_that_is_not_moved_as_it_should() {
+    for (seed, tape) in tapes() {
+        let filed = filed_in_edition_runs(&tape.bytes);
+        let found = |fields: &[Field], place: Placing| {
+            let is_told =
+                |filed: &Filed| filed.tells(|filed| read_elsewhere(&filed.file, fields, place));
+            filed.iter().any(is_told)
+        };
+        assert!(!found(&BEHIND_THE_PROOF, RIGHT_PLACE), "the right places");
+        for (name, place) in WRONG_PLACES {
+            for field in BEHIND_THE_PROOF {
+                assert!(found(&[field], place), "seed {seed}: {} {name}", field.0);
+            }
+            let notes = &BEHIND_THE_PROOF[1..];
+            assert!(found(notes, place), "seed {seed}: the witness {name}");
+            let all = &BEHIND_THE_PROOF;
+            assert!(found(all, place), "seed {seed}: all that {name}");
+        }
+    }
+}
+
+/// The edition that a judge takes a file of this length to be of, if it takes it.
+type Taking = fn(usize) -> Option<Edition>;
+
+/// Lengths that are wrongly taken, or not, each with its name.
+const WRONG_LENGTHS: [(&str, Taking); 19] = [
+    ("takes the first length only", |length| {
+        (length == 4_210).then_some(Edition::First)
+    }),
+    ("takes the second length only", |length| {
+        (length == 4_106).then_some(Edition::Second)
+    }),
+    ("reads both as of the first edition", |length| {
+        [4_106, 4_210].contains(&length).then_some(Edition::First)
+    }),
+    ("reads both as of the second edition", |length| {
+        [4_106, 4_210].contains(&length).then_some(Edition::Second)
+    }),
+    ("has the editions exchanged", |length| match length {
+        4_210 => Some(Edition::Second),
+        4_106 => Some(Edition::First),
+        _ => None,
+    }),
+    (
+        "takes all that is at least as long as one",
+        |length| match length {
+            4_210.. => Some(Edition::First),
+            4_106.. => Some(Edition::Second),
+            _ => None,
+        },
+    ),
+    (
+        "takes all that is at least as long as the first",
+        |length| match length {
+            4_210.. => Some(Edition::First),
+            4_106 => Some(Edition::Second),
+            _ => None,
+        },
+    ),
+    (
+        "takes all that is at most as long as one",
+        |length| match length {
+            0..=4_106 => Some(Edition::Second),
+            4_107..=4_210 => Some(Edition::First),
+            _ => None,
+        },
+    ),
+    (
+        "takes all that is at most as long as the second",
+        |length| match length {
+            0..=4_106 => Some(Edition::Second),
+            4_210 => Some(Edition::First),
+            _ => None,
+        },
+    ),
+    (
+        "takes all between, as of the first",
+        |length| match length {
+            4_106 => Some(Edition::Second),
+            4_107..=4_210 => Some(Edition::First),
+            _ => None,
+        },
+    ),
+    (
+        "takes all between, as of the second",
+        |length| match length {
+            4_106..=4_209 => Some(Edition::Second),
+            4_210 => Some(Edition::First),
+            _ => None,
+        },
+    ),
+    ("takes 4,105 bytes", |length| {
+        Edition::of_length(if length == 4_105 { 4_106 } else { length })
+    }),
+    ("takes 4,107 bytes as of the second", |length| {
+        Edition::of_length(if length == 4_107 { 4_106 } else { length })
+    }),
+    ("takes 4,107 bytes as of the first", |length| {
+        Edition::of_length(if length == 4_107 { 4_210 } else { length })
+    }),
+    ("takes 4,209 bytes as of the first", |length| {
+        Edition::of_length(if length == 4_209 { 4_210 } else { length })
+    }),
+    ("takes 4,209 bytes as of the second", |length| {
+        Edition::of_length(if length == 4_209 { 4_106 } else { length })
+    }),
+    ("takes 4,211 bytes", |length| {
+        Edition::of_length(if length == 4_211 { 4_210 } else { length })
+    }),
+    ("leaves out the lowest bit of a length", |length| {
+        Edition::of_length(length & !1)
+    }),
+    ("takes neither", |_| None),
+];
+
+/// The case as it is read by the layout of this edition: a longer file is cut, a
+/// shorter one has zero bytes behind it.
+fn read_as(file: &[u8], edition: Option<Edition>) -> Option<Case> {
+    let mut file = file.to_vec();
+    file.resize(edition?.case_bytes(), 0);
+    Case::read(&file)
+}
+
+#[test]
+fn the_edition_runs_of_a_tape_find_lengths_that_are_wrongly_taken_or_not() {
+    for (seed, tape) in tapes() {
+        let filed = filed_in_edition_runs(&tape.bytes);
+        let found = |taking: Taking| {
+            let read = |filed: &Filed| read_as(&filed.file, taking(filed.file.len()));
+            filed.iter().any(|filed| filed.tells(read))
+        };
+        assert!(!found(Edition::of_length), "seed {seed}: the right ones");
+        for (name, taking) in WRONG_LENGTHS {
+            assert!(found(taking), "seed {seed}: a judge that {name}");
+        }
+    }
+}
+
+/// How a judge reads a file that remembers others.
+type Remembering = fn(&Filed) -> Option<Case>;
+
+/// The edition of the file that came to this ledger first, or last, before this
+/// one; this one's own, if none did. No file of a wrong length is taken.
+fn edition_before(filed: &Filed, which: fn(&[Vec<u8>]) -> Option<&Vec<u8>>) -> Option<Edition> {
+    let own = Edition::of_length(filed.file.len())?;
+    which(&filed.before).map_or(Some(own), |file| Edition::of_length(file.len()))
+}
+
+/// Ways to remember an edition that are wrong, each with its name.
+const REMEMBERING: [(&str, Remembering); 4] = [
+    ("reads by the edition of the case before", |filed| {
+        read_as(&filed.file, edition_before(filed, |files| files.last()))
+    }),
+    ("reads by the edition of the ledger's first case", |filed| {
+        read_as(&filed.file, edition_before(filed, |files| files.first()))
+    }),
+    (
+        "takes the edition of the ledger's first case only",
+        |filed| {
+            let first = edition_before(filed, |files| files.first());
+            Case::read(&filed.file).filter(|case| Some(case.edition()) == first)
+        },
+    ),
+    ("reads what a longer file before has left", |filed| {
+        let own = Case::read(&filed.file)?;
+        let longer = filed
+            .before
+            .last()
+            .filter(|file| file.len() > filed.file.len());
+        let Some(mut left) = longer.cloned() else {
+            return Some(own);
+        };
+        left[..filed.file.len()].copy_from_slice(&filed.file);
+        Case::read(&left)
+    }),
+];
+
+#[test]
+fn the_edition_runs_of_a_tape_find_judges_that_remember_an_edition() {
+    for (seed, tape) in tapes() {
+        let filed = filed_in_edition_runs(&tape.bytes);
+        for (name, read) in REMEMBERING {
+            let is_found = filed.iter().any(|filed| filed.tells(read));
+            assert!(is_found, "seed {seed}: a judge that {name}");
+        }
+    }
+}
+
+#[test]
+fn the_edition_runs_of_a_tape_find_tables_that_are_kept_apart_by_edition() {
+    for (seed, tape) in tapes() {
+        for edition in Edition::ALL {
+            let is_told = |filed: &Filed| {
+                let Some(case) = Case::read(&filed.file) else {
+                    return false;
+                };
+                let named = match filed.right_answer() {
+                    Answer {
+                        number: SPENT,
+                        place,
+                        ..
+                    } => usize::from(place) - 1,
+                    _ => return false,
+                };
+                let is_same = |file: &&Vec<u8>| file.len() == filed.file.len();
+                let before = filed.before.iter().filter(is_same);
+                let mut known = before.flat_map(|file| nullifiers_of(file));
+                case.edition() == edition && !known.any(|row| row == case.nullifiers[named])
+            };
+            let is_found = filed_in_edition_runs(&tape.bytes).iter().any(is_told);
+            assert!(is_found, "seed {seed}: the {edition} edition's own table");
+        }
+    }
+}
+
+/// The first and the last byte of each carried field: ephemeral key, proof and
+/// ciphertexts.
+const CARRIED_ENDS: [(Edition, [usize; 8]); 2] = [
+    (
+        Edition::First,
+        [176, 207, 304, 599, 600, 1_200, 1_201, 1_801],
+    ),
+    (
+        Edition::Second,
+        [176, 207, 304, 495, 496, 1_096, 1_097, 1_697],
+    ),
+];
+
+#[test]
+fn the_edition_runs_of_a_tape_find_judges_that_look_at_a_carried_byte() {
+    for (seed, tape) in tapes() {
+        let mut filed = filed_in_edition_runs(&tape.bytes);
+        filed.retain(|filed| filed.right_answer().is_pass());
+        for (edition, ends) in CARRIED_ENDS {
+            let accepted = filed
+                .iter()
+                .filter(|filed| filed.file.len() == edition.case_bytes());
+            // A judge that refuses where the bit is set, or where it is not, refuses
+            // one of these that are accepted.
+            for (byte, bit) in ends
+                .iter()
+                .flat_map(|byte| (0..8).map(move |bit| (byte, bit)))
+            {
+                let has_bit = |filed: &Filed| filed.file[*byte] >> bit & 1 == 1;
+                let with_bit = accepted.clone().filter(|filed| has_bit(filed)).count();
+                let refused = [with_bit, accepted.clone().count() - with_bit];
+                assert!(!refused.contains(&0), "seed {seed}: bit {bit} of {byte}");
+            }
+        }
+    }
+}
+
+#[test]
+fn the_edition_runs_of_a_tape_find_judges_that_carry_a_byte_too_much() {
+    let beside = [
+        (Edition::First, [175, 208, 303, 1_802]),
+        (Edition::Second, [175, 208, 303, 1_698]),
+    ];
+    for (seed, tape) in tapes() {
+        let filed = filed_in_edition_runs(&tape.bytes);
+        let accepted: Vec<&Filed> = filed
+            .iter()
+            .filter(|filed| filed.right_answer().is_pass())
+            .collect();
+        for (edition, bytes) in beside {
+            for byte in bytes {
+                // Such a judge takes one of these files for one that is accepted.
+                let is_alike = |one: &&Filed, other: &Filed| {
+                    let differs = |at: usize| one.file[at] != other.file[at];
+                    one.file.len() == other.file.len()
+                        && (0..one.file.len()).all(|at| differs(at) == (at == byte))
+                };
+                let is_found = filed.iter().any(|other| {
+                    other.file.len() == edition.case_bytes()
+                        && !other.right_answer().is_pass()
+                        && accepted.iter().any(|one| is_alike(one, other))
+                });
+                assert!(
+                    is_found,
+                    "seed {seed}: byte {byte} of the {edition} edition"
+                );
+            }
+        }
+    }
+}
+
+#[test]
+fn the_scenes_of_a_tape_find_fields_that_are_not_moved_as_well() {
+    for (seed, tape) in tapes() {
+        let filed = filed(&tape.bytes, |run| run.starts_with("bench"));
+        let (name, place) = WRONG_PLACES[0];
+        for field in BEHIND_THE_PROOF {
+            let read = |filed: &Filed| read_elsewhere(&filed.file, &[field], place);
+            let is_found = filed.iter().any(|filed| filed.tells(read));
+            assert!(is_found, "seed {seed}: {} {name}", field.0);
+        }
+    }
+}
+
+/// The files of each pair that a tape has in two orders.
+fn pairs_in_two_orders(tape: &[u8]) -> Vec<[usize; 2]> {
+    let mut is_order = false;
+    let mut pairs = Vec::new();
+    for window in before_depots(tape).windows(3) {
+        let [(kind, body), (second, one), (third, other)] = window else {
+            continue;
+        };
+        if *kind == b'N' {
+            is_order = body.starts_with(b"order");
+        }
+        if is_order && [*kind, *second, *third] == *b"PCC" {
+            pairs.push([one.len(), other.len()]);
+        }
+    }
+    pairs
+}
+
+#[test]
+fn a_long_tape_has_both_editions_by_the_dice_and_pairs_of_both_in_two_orders() {
+    for seed in SEEDS {
+        let tape = make_tape(seed, 2_000);
+        let cases = judged_cases(&tape.bytes);
+        let first = |(_, case): &&(Ledger, Case)| case.edition() == Edition::First;
+        let of_first = cases.iter().filter(first).count();
+        let is_even = 3 * of_first > cases.len() && 3 * of_first < 2 * cases.len();
+        assert!(is_even, "seed {seed}: {of_first} of {}", cases.len());
+        let pairs = pairs_in_two_orders(&tape.bytes);
+        for wanted in [[4_210, 4_106], [4_106, 4_210]] {
+            let times = pairs.iter().filter(|pair| **pair == wanted).count();
+            assert!(times > 1, "seed {seed}: {wanted:?} {times} times");
         }
     }
 }

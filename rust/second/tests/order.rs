@@ -9,7 +9,7 @@ use second::judge::judge;
 use second::ledger::{Ledger, MAX_POOL};
 use second::maker::bends::BENDS;
 use second::random::Random;
-use second::wallet::{balance, idle_note, set_nullifiers};
+use second::wallet::{any_proof, balance, idle_note, set_nullifiers};
 
 /// Judges two files one after the other, on a copy: number and place of the
 /// answers, which are all that the demand speaks of.
@@ -103,7 +103,7 @@ fn check_trees(ended: &Ledger, ended_too: &Ledger) {
 
 #[test]
 fn two_cases_get_the_same_answers_in_either_order() {
-    let (mut tried, mut passed) = (0, 0);
+    let (mut tried, mut passed, mut mixed) = (0, 0, 0);
     for seed in 0..40 {
         let mut shift = Shift::busy(seed);
         for _ in 0..10 {
@@ -114,11 +114,17 @@ fn two_cases_get_the_same_answers_in_either_order() {
                 continue;
             }
             tried += 1;
-            passed += usize::from(check_two_orders(&shift.ledger, &one, &other));
+            let both_pass = check_two_orders(&shift.ledger, &one, &other);
+            passed += usize::from(both_pass);
+            mixed += usize::from(both_pass && one.len() != other.len());
         }
     }
     assert!(tried > 250, "only {tried} pairs tried");
     assert!(passed > 40, "only {passed} pairs passed");
+    assert!(
+        mixed > 15,
+        "only {mixed} pairs of different editions passed"
+    );
 }
 
 /// Files of two cases that change the pool by so much, and a ledger for both.
@@ -240,7 +246,7 @@ fn a_shared_nullifier_is_refused_as_spent_where_both_take_the_pool_outside() {
 
 /// Another good case with one of the same old notes.
 fn sharing_case(shift: &mut Shift, case: &Case) -> Case {
-    let mut other = case.clone();
+    let mut other = case.clone().with_proof(any_proof(&mut shift.random));
     other.old[shift.random.below(2)] = idle_note(&mut shift.random);
     if shift.random.one_in(2) {
         other.old.swap(0, 1);
@@ -253,12 +259,13 @@ fn sharing_case(shift: &mut Shift, case: &Case) -> Case {
 
 #[test]
 fn of_two_good_cases_with_a_common_nullifier_the_second_is_refused_as_spent() {
-    let mut places = [0; 2];
+    let (mut places, mut mixed) = ([0; 2], 0);
     for seed in 0..40 {
         let mut shift = Shift::busy(seed);
         let one = shift.good_case();
         let other = sharing_case(&mut shift, &one);
         let (one, other) = (one.to_bytes(), other.to_bytes());
+        mixed += usize::from(one.len() != other.len());
         assert!(share_a_nullifier(&one, &other));
         for files in [[&one[..], &other[..]], [&other[..], &one[..]]] {
             assert_eq!(judge_alone(&shift.ledger, files[0]), Answer::PASSED);
@@ -269,6 +276,7 @@ fn of_two_good_cases_with_a_common_nullifier_the_second_is_refused_as_spent() {
         }
     }
     assert!(places.iter().all(|times| *times > 5), "{places:?}");
+    assert!((10..30).contains(&mixed), "{mixed} of different editions");
 }
 
 /// The row with which a file is refused as spent at place 1.

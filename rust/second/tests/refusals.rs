@@ -7,12 +7,13 @@ use std::collections::BTreeSet;
 use common::Shift;
 use second::answer::{Answer, Row, SPENT};
 use second::bytes::Bytes32;
-use second::case::{Case, CASE_BYTES};
+use second::case::{Case, Edition};
 use second::judge::{all_refusals, judge, RULES};
 use second::ledger::{Ledger, ROW_BYTES};
 use second::maker::bends::{bend_named, Bend, BENDS};
 use second::maker::tampers::TAMPERS;
 use second::tree::Tree;
+use second::wallet::in_edition;
 
 /// Judges a case, and checks that a refusal changes no byte and that the row is
 /// as it has to be.
@@ -61,12 +62,58 @@ fn bent_cases(bend: &Bend) -> Vec<(Ledger, Case)> {
 fn every_bent_case_gets_the_answer_it_was_bent_for() {
     for bend in BENDS {
         let made = bent_cases(bend);
-        assert!(!made.is_empty(), "never made: {}", bend.name);
+        for edition in Edition::ALL {
+            let is_made = made.iter().any(|(_, case)| case.edition() == edition);
+            assert!(is_made, "never made: {}, {edition} edition", bend.name);
+        }
         for (mut ledger, case) in made {
             let answer = judge_checked(&mut ledger, &case.to_bytes());
             assert_eq!(answer.without_row(), bend.answer, "{}", bend.name);
         }
     }
+}
+
+#[test]
+fn no_bend_changes_the_edition() {
+    let mut shift = Shift::busy(12);
+    for bend in BENDS {
+        for edition in Edition::ALL {
+            let case = shift.good_case();
+            let case = in_edition(&mut shift.random, &case, edition);
+            if let Some(bent) = shift.bend(bend, case) {
+                assert_eq!(bent.edition(), edition, "{}", bend.name);
+            }
+        }
+    }
+}
+
+/// A case in the other edition, with other carried bytes.
+fn in_other_edition(shift: &mut Shift, case: &Case) -> Case {
+    let mut other = in_edition(&mut shift.random, case, case.edition().other());
+    other.ephemeral_key = shift.random.bytes();
+    other.ciphertexts = [shift.random.bytes(), shift.random.bytes()];
+    other
+}
+
+#[test]
+fn the_same_case_in_the_other_edition_gets_the_same_answer_and_leaves_the_same_ledger() {
+    let mut shift = Shift::busy(13);
+    let mut accepted = 0;
+    for bend in BENDS {
+        for (ledger, case) in bent_cases(bend).into_iter().step_by(15) {
+            let other = in_other_edition(&mut shift, &case);
+            let (mut one, mut another) = (ledger.clone(), ledger);
+            let answer = judge_checked(&mut one, &case.to_bytes());
+            assert_eq!(judge_checked(&mut another, &other.to_bytes()), answer);
+            assert_eq!(one, another, "{}", bend.name);
+            if answer.is_pass() {
+                accepted += 1;
+                let again = judge_checked(&mut one, &other.to_bytes());
+                assert_eq!(again.without_row(), Answer::new(8, 1));
+            }
+        }
+    }
+    assert!(accepted > 20, "{accepted}");
 }
 
 #[test]
@@ -166,18 +213,38 @@ fn the_table_has_each_answer_once_and_in_order() {
 #[test]
 fn another_length_is_refusal_1_before_all_others() {
     let mut shift = Shift::busy(1);
-    let file = shift.good_case().to_bytes();
-    assert_eq!(file.len(), CASE_BYTES);
-    let mut damaged = Ledger::zeroed(Vec::new(), Vec::new());
-    for length in [0, 1, 4_106, 4_209, 4_211, 8_420, 100_000] {
-        let mut other = file.clone();
-        other.resize(length, 0);
-        for ledger in [&mut shift.ledger, &mut damaged] {
-            assert_eq!(judge_checked(ledger, &other), Answer::new(1, 0));
+    let case = shift.good_case();
+    for (edition, whole) in [(Edition::First, 4_210), (Edition::Second, 4_106)] {
+        let file = in_edition(&mut shift.random, &case, edition).to_bytes();
+        assert_eq!(file.len(), whole);
+        let mut damaged = Ledger::zeroed(Vec::new(), Vec::new());
+        let mut ledger = shift.ledger.clone();
+        for length in [
+            0, 1, 1_698, 1_802, 4_105, 4_107, 4_209, 4_211, 8_212, 8_420, 69_642, 69_746, 100_000,
+        ] {
+            let mut other = file.clone();
+            other.resize(length, 0);
+            for ledger in [&mut ledger, &mut damaged] {
+                assert_eq!(judge_checked(ledger, &other), Answer::new(1, 0));
+            }
+        }
+        assert_eq!(judge_checked(&mut damaged, &file), Answer::new(2, 0));
+        assert_eq!(judge_checked(&mut ledger, &file), Answer::PASSED);
+    }
+}
+
+#[test]
+fn a_file_cut_or_lengthened_to_the_other_length_is_read_as_of_that_edition() {
+    let mut shift = Shift::busy(14);
+    for (edition, length) in [(Edition::First, 4_106), (Edition::Second, 4_210)] {
+        for _ in 0..20 {
+            let case = shift.good_case();
+            let mut file = in_edition(&mut shift.random, &case, edition).to_bytes();
+            file.resize(length, 0);
+            let answer = judge_checked(&mut shift.ledger.clone(), &file);
+            assert!(answer.number > 8, "{answer}");
         }
     }
-    assert_eq!(judge_checked(&mut damaged, &file), Answer::new(2, 0));
-    assert_eq!(judge_checked(&mut shift.ledger, &file), Answer::PASSED);
 }
 
 #[test]
@@ -296,16 +363,18 @@ fn check_acceptance(before: &Ledger, case: &Case, after: &Ledger) {
 fn the_carried_fields_count_for_nothing() {
     let mut shift = Shift::busy(6);
     let case = shift.good_case();
-    let mut other = case.clone();
-    other.ephemeral_key = shift.random.bytes();
-    other.proof = shift.random.bytes();
-    other.ciphertexts = [shift.random.bytes(), shift.random.bytes()];
-    assert_ne!(case.to_bytes(), other.to_bytes());
-    let mut ledger = shift.ledger.clone();
-    let mut other_ledger = shift.ledger.clone();
-    assert!(judge(&mut ledger, &case.to_bytes()).is_pass());
-    assert!(judge(&mut other_ledger, &other.to_bytes()).is_pass());
-    assert_eq!(ledger, other_ledger);
+    for edition in Edition::ALL {
+        let case = in_edition(&mut shift.random, &case, edition);
+        let mut other = in_edition(&mut shift.random, &case, edition);
+        other.ephemeral_key = shift.random.bytes();
+        other.ciphertexts = [shift.random.bytes(), shift.random.bytes()];
+        assert_ne!(case.to_bytes(), other.to_bytes());
+        let mut ledger = shift.ledger.clone();
+        let mut other_ledger = shift.ledger.clone();
+        assert!(judge(&mut ledger, &case.to_bytes()).is_pass());
+        assert!(judge(&mut other_ledger, &other.to_bytes()).is_pass());
+        assert_eq!(ledger, other_ledger);
+    }
 }
 
 #[test]

@@ -2,11 +2,12 @@
 //! that it was bent for. Most leave all else right, so that a judge without
 //! that check would let the case pass. Some must change nothing.
 //!
-//! A bend that cannot be made from the case and purse at hand gives nothing.
+//! A bend that cannot be made from the case and purse at hand gives nothing. None
+//! changes the edition that the case is in.
 
 use crate::answer::Answer;
 use crate::bytes::Bytes32;
-use crate::case::{Amount, Case, OldNote, Position, CASE_BYTES, MAX_MONEY, MAX_SUM};
+use crate::case::{Amount, Case, OldNote, Position, MAX_MONEY, MAX_SUM};
 use crate::hashes;
 use crate::ledger::MAX_POOL;
 use crate::random::Random;
@@ -100,10 +101,12 @@ const PLAIN: &[Bend] = &[
         c.vpub_new = Amount(1);
         Some(c)
     }),
-    bend(4, 0, "random bytes all through", |b, _| {
-        Case::read(&b.random.bytes::<CASE_BYTES>())
+    bend(4, 0, "random bytes all through", |b, c| {
+        let mut file = c.to_bytes();
+        b.random.fill(&mut file);
+        Case::read(&file)
     }),
-    bend(4, 0, "all bits set", |_, _| Case::read(&[0xff; CASE_BYTES])),
+    bend(4, 0, "all bits set", |_, c| all_through(&c, 0xff)),
     bend(5, 1, "vpub_old one above", |b, c| {
         public_or_unbalanced(b, c, one_above(), Amount::ZERO)
     }),
@@ -130,9 +133,7 @@ const PLAIN: &[Bend] = &[
         c.anchor = [0; 32];
         Some(c)
     }),
-    bend(6, 0, "zero bytes all through", |_, _| {
-        Case::read(&[0; CASE_BYTES])
-    }),
+    bend(6, 0, "zero bytes all through", |_, c| all_through(&c, 0)),
     bend(7, 0, "one note in both places", one_note_twice),
     bend(7, 0, "nullifier 1 copied", |_, mut c| {
         c.nullifiers[1] = c.nullifiers[0];
@@ -341,6 +342,11 @@ pub fn bend_named(name: &str) -> &'static Bend {
         .expect("a bend of this name")
 }
 
+/// This byte in every place of a file of the case's edition.
+fn all_through(case: &Case, byte: u8) -> Option<Case> {
+    Case::read(&vec![byte; case.edition().case_bytes()])
+}
+
 // Bends that must change nothing.
 
 fn ephemeral_key(b: &mut Bench, mut case: Case) -> Option<Case> {
@@ -349,7 +355,7 @@ fn ephemeral_key(b: &mut Bench, mut case: Case) -> Option<Case> {
 }
 
 fn proof(b: &mut Bench, mut case: Case) -> Option<Case> {
-    b.random.flip_bit(&mut case.proof);
+    b.random.flip_bit(case.proof.bytes_mut());
     Some(case)
 }
 
@@ -450,9 +456,10 @@ fn both_public(b: &mut Bench, mut case: Case) -> Option<Case> {
 // Anchors.
 
 /// A case whose notes lead to the root of the block that is still open.
-fn open_root(b: &mut Bench, _: Case) -> Option<Case> {
+fn open_root(b: &mut Bench, case: Case) -> Option<Case> {
     let anchor = b.purse.open_root()?;
-    Some(b.purse.case_at(b.random, anchor))
+    let open = b.purse.case_at(b.random, anchor);
+    Some(open.with_proof(case.proof))
 }
 
 /// An anchor on the roll that is older than the note's leaf.

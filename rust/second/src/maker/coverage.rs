@@ -4,24 +4,42 @@ use std::collections::BTreeMap;
 use std::fmt;
 
 use crate::answer::{Answer, Row};
+use crate::case::Edition;
 
 /// How often each answer and each purpose is on a tape.
 #[derive(Clone, Debug, Default)]
 pub struct Coverage {
     answers: BTreeMap<(String, Answer), usize>,
-    purposes: BTreeMap<String, usize>,
+    purposes: BTreeMap<String, Times>,
+}
+
+/// How often entries were made for something, and in how many of them a case is
+/// in the first edition, and in the second. Some have no case, or one that is in
+/// neither.
+#[derive(Clone, Copy, Debug, Default)]
+struct Times {
+    all: usize,
+    editions: [usize; 2],
 }
 
 impl Coverage {
-    /// Counts the lines of a tape and the purposes of its entries.
-    pub fn of(lines: &[String], purposes: impl Iterator<Item = String>) -> Coverage {
+    /// Counts the lines of a tape and the purposes of its entries, each with the
+    /// edition of its case.
+    pub fn of(
+        lines: &[String],
+        purposes: impl Iterator<Item = (String, Option<Edition>)>,
+    ) -> Coverage {
         let mut coverage = Coverage::default();
         for (kind, answer) in lines.iter().filter_map(|line| answer_of(line)) {
             let key = (kind.to_owned(), answer);
             *coverage.answers.entry(key).or_default() += 1;
         }
-        for purpose in purposes {
-            *coverage.purposes.entry(purpose).or_default() += 1;
+        for (purpose, edition) in purposes {
+            let times = coverage.purposes.entry(purpose).or_default();
+            times.all += 1;
+            if let Some(edition) = edition {
+                times.editions[edition as usize] += 1;
+            }
         }
         coverage
     }
@@ -34,7 +52,16 @@ impl Coverage {
 
     /// How often entries were made for this.
     pub fn times_made_for(&self, purpose: &str) -> usize {
-        self.purposes.get(purpose).copied().unwrap_or(0)
+        self.times_of(purpose).all
+    }
+
+    /// How often entries with a case in this edition were made for this.
+    pub fn times_made_in(&self, edition: Edition, purpose: &str) -> usize {
+        self.times_of(purpose).editions[edition as usize]
+    }
+
+    fn times_of(&self, purpose: &str) -> Times {
+        self.purposes.get(purpose).copied().unwrap_or_default()
     }
 }
 
@@ -45,9 +72,10 @@ impl fmt::Display for Coverage {
             let (number, place) = (answer.number, answer.place);
             writeln!(out, "{kind:<6} {number:>6}  {place:>5}  {times:>5}")?;
         }
-        writeln!(out, "\ntimes  made for")?;
+        writeln!(out, "\ntimes  first  second  made for")?;
         for (purpose, times) in &self.purposes {
-            writeln!(out, "{times:>5}  {purpose}")?;
+            let [first, second] = times.editions;
+            writeln!(out, "{:>5}  {first:>5}  {second:>6}  {purpose}", times.all)?;
         }
         Ok(())
     }

@@ -282,17 +282,23 @@ fn halved(total: u128) -> [Amount; 2] {
     [total / 2, total - total / 2].map(|share| Amount(share as u64))
 }
 
-/// A right case over two notes that are the only leaves of a tree.
+/// A right case over two notes of these values.
 pub(super) fn balanced_case(random: &mut Random, values: &Values) -> Case {
     let notes = values.old.map(|value| Note::random(random, Amount(value)));
+    case_over_leaves(random, &notes, [values.vpub_old, values.vpub_new])
+}
+
+/// A right case over two notes that are the only leaves of a tree, with these
+/// public values: what goes in, and what comes out.
+pub(super) fn case_over_leaves(random: &mut Random, notes: &[Note; 2], public: [u64; 2]) -> Case {
     let leaves = [notes[0].commitment(), notes[1].commitment()];
     let old = [0, 1].map(|place| {
         let position = Position(place as u32);
         notes[place].at(position, path_of_leaf(&leaves, position))
     });
     let plan = Plan {
-        vpub_old: Amount(values.vpub_old),
-        vpub_new: Amount(values.vpub_new),
+        vpub_old: Amount(public[0]),
+        vpub_new: Amount(public[1]),
         anchor: root_of_leaves(&leaves),
         old,
         new: [

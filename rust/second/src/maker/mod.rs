@@ -10,6 +10,7 @@ mod by_rule;
 mod coverage;
 mod depots;
 mod edges;
+mod editions;
 mod misses;
 mod pools;
 pub mod purse;
@@ -22,12 +23,12 @@ pub mod tampers;
 use std::collections::HashMap;
 
 use crate::answer::{Answer, Row, SPENT};
-use crate::case::{Case, CASE_BYTES};
+use crate::case::{Case, Edition};
 use crate::judge::all_refusals;
 use crate::ledger::{Ledger, MAX_POOL};
 use crate::random::Random;
 use crate::tape::{entry, plant_body, play, Player, MAX_BODY_BYTES};
-use crate::wallet::set_nullifiers;
+use crate::wallet::{in_edition, set_nullifiers};
 
 use bends::{Bench, Bend, BENDS};
 pub use coverage::Coverage;
@@ -62,10 +63,16 @@ pub fn make_tape(seed: u64, entries: usize) -> Tape {
     maker.finish()
 }
 
+/// Lengths that a case file may not have, and that a tape tries more often than
+/// others: none, one byte, and one byte off either edition.
+const WRONG_LENGTHS: [usize; 6] = [0, 1, 4_105, 4_107, 4_209, 4_211];
+
 /// One sound entry, and what it was made for.
 struct Made {
     bytes: Vec<u8>,
     purpose: Option<String>,
+    /// The edition, if it is a case of a right length.
+    edition: Option<Edition>,
 }
 
 /// A tape in the making.
@@ -77,12 +84,13 @@ struct Maker {
     /// How many entries were made, names aside, and how many are wanted.
     counted: usize,
     wanted: usize,
-    /// Whether entries are put on the tape beside those that are wanted.
+    /// Whether entries go on the tape though it has as many as are wanted.
     is_beside: bool,
     /// How often each name was given.
     runs: HashMap<String, usize>,
-    /// Bends that have not been on the tape yet.
-    bends_due: Vec<&'static Bend>,
+    /// Bends that have not been on the tape yet, by the edition that they are due
+    /// in.
+    bends_due: Vec<(&'static Bend, Edition)>,
     /// Pairs of neighbours in the table of refusals that have not both
     /// applied to one case yet.
     pairs_due: Vec<(Answer, Answer)>,
@@ -97,6 +105,9 @@ struct Maker {
     /// Whether something was done to a planted ledger since its memory was
     /// looked at.
     memory_due: bool,
+    /// Ledgers that were grown on this tape to be used again, and the purses that
+    /// fit them.
+    grown: HashMap<&'static str, (Ledger, Purse)>,
     /// How many scenes with long buffers, or long entries, may still be made; the
     /// first scenes have theirs besides.
     long_left: usize,
@@ -106,7 +117,8 @@ impl Maker {
     fn new(seed: u64, wanted: usize) -> Maker {
         let mut random = Random::new(seed);
         let purse = Purse::fresh(&mut random);
-        let mut bends_due: Vec<&Bend> = BENDS.iter().collect();
+        let in_both = |bend| Edition::ALL.map(|edition| (bend, edition));
+        let mut bends_due: Vec<(&Bend, Edition)> = BENDS.iter().flat_map(in_both).collect();
         random.shuffle(&mut bends_due);
         Maker {
             random,
@@ -123,18 +135,20 @@ impl Maker {
             seals_due: Vec::new(),
             is_planted: false,
             memory_due: false,
+            grown: HashMap::new(),
             long_left: wanted.saturating_sub(600) / 150,
         }
     }
 
+    /// Whether no more entries go on the tape.
     fn is_done(&self) -> bool {
-        self.counted >= self.wanted
+        self.counted >= self.wanted && !self.is_beside
     }
 
     /// Names what follows on the tape, if anything does. The first run of a name
     /// has it alone, a later one with its number.
     fn name(&mut self, name: &str) {
-        if self.is_done() && !self.is_beside {
+        if self.is_done() {
             return;
         }
         let runs = self.runs.entry(name.to_owned()).or_insert(0);
@@ -157,7 +171,8 @@ impl Maker {
             bytes.extend(scenes::broken_end(&mut self.random));
         }
         let lines = play(&bytes);
-        let purposes = self.made.into_iter().filter_map(|made| made.purpose);
+        let made = self.made.into_iter();
+        let purposes = made.filter_map(|made| Some((made.purpose?, made.edition)));
         let coverage = Coverage::of(&lines, purposes);
         Tape {
             bytes,
@@ -180,13 +195,15 @@ impl Maker {
         if matches!(kind, b'P' | b'K' | b'T' | b'A' | b'F' | b'C' | b'B') {
             self.memory_due = self.is_planted;
         }
-        let is_beside = kind == b'N' || self.is_beside;
-        let is_wanted = is_beside || self.counted < self.wanted;
-        if !is_beside {
-            self.counted += 1;
+        if kind == b'N' || !self.is_done() {
+            self.made.push(Made {
+                bytes,
+                purpose,
+                edition: Edition::of_length(body.len()).filter(|_| kind == b'C'),
+            });
         }
-        if is_wanted {
-            self.made.push(Made { bytes, purpose });
+        if kind != b'N' {
+            self.counted += 1;
         }
         lines
     }
@@ -253,8 +270,12 @@ impl Maker {
         !ledger.is_damaged() && ledger.free_table_rows() >= 2
     }
 
-    /// A case that must be accepted.
+    /// A case that must be accepted. If a bend that changes nothing is due, it is
+    /// bent in that way.
     fn good_case(&mut self) {
+        if let Some((bend, case)) = self.due_bend(|bend| bend.answer.is_pass()) {
+            return self.judge_bent(&case, bend);
+        }
         let case = self.purse.good_case(&mut self.random);
         self.judge(&case, Answer::PASSED, "good case");
     }
@@ -280,17 +301,33 @@ impl Maker {
         }
     }
 
-    /// A case bent in this way, if it can be.
+    /// A case bent in this way, if it can be, in an edition in which that is due
+    /// rather than in the other.
     fn case_bent_by(&mut self, bend: &Bend) {
-        if let Some(case) = self.try_bend(bend) {
+        let mut editions = Edition::ALL;
+        self.random.shuffle(&mut editions);
+        let due = editions
+            .into_iter()
+            .find(|edition| self.is_due(bend, *edition));
+        if let Some(case) = self.try_bend(bend, due.unwrap_or(editions[0])) {
             self.judge_bent(&case, bend);
         }
     }
 
-    /// Puts a case that was bent in this way on the tape.
+    /// Puts a case that was bent in this way on the tape. Where no other answer
+    /// comes before, the bend is due in that edition no longer.
     fn judge_bent(&mut self, case: &Case, bend: &Bend) {
+        let edition = case.edition();
+        if !self.is_done() && self.is_due(bend, edition) && self.has_room() {
+            self.work_off(bend, edition);
+        }
         let answer = self.with_row(bend.answer, case);
         self.judge(case, answer, bend.name);
+    }
+
+    fn is_due(&self, bend: &Bend, edition: Edition) -> bool {
+        let mut due = self.bends_due.iter();
+        due.any(|due| due.0.name == bend.name && due.1 == edition)
     }
 
     /// A case bent in a way that is due. False if there is none, or if none
@@ -299,7 +336,7 @@ impl Maker {
         if !self.has_room() {
             return false;
         }
-        if let Some((bend, case)) = self.take_due_bend() {
+        if let Some((bend, case)) = self.due_bend(|_| true) {
             self.judge_bent(&case, bend);
             return true;
         }
@@ -310,27 +347,60 @@ impl Maker {
         false
     }
 
-    /// The first due bend that can be made here.
-    fn take_due_bend(&mut self) -> Option<(&'static Bend, Case)> {
-        for index in 0..self.bends_due.len() {
-            let bend = self.bends_due[index];
-            if let Some(case) = self.try_bend(bend) {
-                self.bends_due.remove(index);
+    /// The first due bend of these that can be made here, where it is answered as
+    /// it was made for.
+    fn due_bend(&mut self, is_meant: fn(&Bend) -> bool) -> Option<(&'static Bend, Case)> {
+        let mut due = self.bends_due.clone();
+        due.retain(|(bend, _)| is_meant(bend));
+        if due.is_empty() || !self.has_room() {
+            return None;
+        }
+        for (bend, edition) in due {
+            if let Some(case) = self.try_bend(bend, edition) {
                 return Some((bend, case));
             }
+            self.put_off(bend, edition);
         }
         None
     }
 
-    fn any_bend(&mut self) -> Option<(&'static Bend, Case)> {
-        let bend = self.random.pick(BENDS);
-        self.try_bend(bend).map(|case| (bend, case))
+    /// Has a due bend that cannot be made here tried after all others.
+    fn put_off(&mut self, bend: &'static Bend, edition: Edition) {
+        self.work_off(bend, edition);
+        self.bends_due.push((bend, edition));
     }
 
-    /// Bends good cases until one can be bent.
-    fn try_bend(&mut self, bend: &Bend) -> Option<Case> {
+    /// The bend is due in this edition no longer.
+    fn work_off(&mut self, bend: &Bend, edition: Edition) {
+        let is_other = |due: &(&Bend, Edition)| due.0.name != bend.name || due.1 != edition;
+        self.bends_due.retain(is_other);
+    }
+
+    /// A bend and an edition by the dice: among those that are due, if any are and
+    /// it would be answered as it was made for, else among all.
+    fn choose_bend(&mut self) -> (&'static Bend, Edition) {
+        if !self.bends_due.is_empty() && self.has_room() {
+            return *self.random.pick(&self.bends_due);
+        }
+        let bend = self.random.pick(BENDS);
+        (bend, *self.random.pick(&Edition::ALL))
+    }
+
+    fn any_bend(&mut self) -> Option<(&'static Bend, Case)> {
+        let (bend, edition) = self.choose_bend();
+        self.try_bend(bend, edition).map(|case| (bend, case))
+    }
+
+    /// A good case in this edition.
+    fn case_in(&mut self, edition: Edition) -> Case {
+        let case = self.purse.good_case(&mut self.random);
+        in_edition(&mut self.random, &case, edition)
+    }
+
+    /// Bends good cases of this edition until one can be bent.
+    fn try_bend(&mut self, bend: &Bend, edition: Edition) -> Option<Case> {
         (0..TRIES).find_map(|_| {
-            let case = self.purse.good_case(&mut self.random);
+            let case = self.case_in(edition);
             self.apply(bend, case)
         })
     }
@@ -353,9 +423,15 @@ impl Maker {
         case.nullifiers.iter().any(|n| ledger.has_spent(n))
     }
 
-    /// A case that is bent twice, so that two refusals apply.
+    /// A case that is bent twice, so that two refusals apply: a pair that is due
+    /// rather than another.
     fn pair_case(&mut self) {
-        match self.any_pair() {
+        let due = if self.has_room() {
+            self.take_due_pair()
+        } else {
+            None
+        };
+        match due.or_else(|| self.any_pair()) {
             Some(pair) => self.judge_pair(pair),
             None => self.good_case(),
         }
@@ -430,8 +506,8 @@ impl Maker {
     /// A bent case, and then the good one that it was bent from: the refusal
     /// must have left nothing behind.
     fn mended_case(&mut self) {
-        let case = self.purse.good_case(&mut self.random);
-        let bend = self.random.pick(BENDS);
+        let (bend, edition) = self.choose_bend();
+        let case = self.case_in(edition);
         if let Some(bent) = self.apply(bend, case.clone()) {
             if !bend.answer.is_pass() {
                 self.judge_bent(&bent, bend);
@@ -442,19 +518,22 @@ impl Maker {
 
     /// A case of a wrong length.
     fn wrong_length(&mut self) {
-        let lengths = [0, 1, CASE_BYTES - 1, CASE_BYTES + 1];
-        let others = [2, 1_802, 4_106, CASE_BYTES + 2, 2 * CASE_BYTES];
+        let others = [2, 1_698, 1_802, 4_158, 4_212, 8_212, 8_420];
         let length = if self.random.one_in(3) {
             *self.random.pick(&others)
         } else {
-            *self.random.pick(&lengths)
+            *self.random.pick(&WRONG_LENGTHS)
         };
         self.case_of_length(length);
     }
 
-    /// A good case cut, or followed by zero bytes.
+    /// A good case cut, or followed by zero bytes. If this is one byte off an
+    /// edition, it is a case of that one.
     fn case_of_length(&mut self, length: usize) {
-        let mut file = self.purse.good_case(&mut self.random).to_bytes();
+        let is_near = |edition: &Edition| edition.case_bytes().abs_diff(length) == 1;
+        let near = Edition::ALL.into_iter().find(is_near);
+        let edition = near.unwrap_or(*self.random.pick(&Edition::ALL));
+        let mut file = self.case_in(edition).to_bytes();
         file.resize(length, 0);
         let purpose = format!("case of {length} bytes");
         self.ask_case(&file, Answer::new(1, 0), &purpose);

@@ -2,18 +2,19 @@
 
 use crate::answer::Answer;
 use crate::bytes::Bytes32;
-use crate::case::{Amount, Case, OldNote, Position, CASE_BYTES, MAX_MONEY};
+use crate::case::{Amount, Case, Edition, OldNote, Position, MAX_MONEY};
 use crate::ledger::{is_pool, Ledger, MAX_POOL, ROW_BYTES};
 use crate::random::Random;
 use crate::tape::{
     entry, keep_body, plant_body, Fill, MAX_BODY_BYTES, MAX_ROLL_BYTES, MAX_TABLE_BYTES,
 };
 use crate::tree::{climb, parent, Record, Tree, DEPTH, FULL};
-use crate::wallet::{balance, idle_note, set_nullifiers, write_case, Note, Plan};
+use crate::wallet::{any_proof, balance, idle_note, set_nullifiers, write_case, Note, Plan};
 
 use super::bends::{bend_named, BENDS};
 use super::by_rule::{among, any_rows, depot, depot_of_anchors};
 use super::depots::{any_depot, depots, rows_not_shown};
+use super::editions::edition_runs;
 use super::misses::near_misses;
 use super::pools::pool_runs;
 use super::purse::Purse;
@@ -21,7 +22,7 @@ use super::rows::spent_rows;
 use super::seals::KINDS;
 use super::searches::searches;
 use super::tampers::{fill_spare_bytes, fill_unused_nodes, TAMPERS};
-use super::{Made, Maker};
+use super::{Made, Maker, WRONG_LENGTHS};
 
 /// What is done on a tape.
 type Act = fn(&mut Maker);
@@ -30,9 +31,8 @@ type Act = fn(&mut Maker);
 type Scene = (&'static str, Act);
 
 /// Every tape that is long enough has each of these, in a random order.
-const FIRST: [Scene; 14] = [
+const FIRST: [Scene; 13] = [
     ("one-of-each", one_of_each),
-    ("bench", bench),
     ("bench", bench),
     ("narrow-rooms", narrow_rooms),
     ("damage", damage),
@@ -88,15 +88,16 @@ const LONG_ROLL: usize = 1_024;
 const LONG_TAPE: usize = 600;
 
 /// How many due bends and pairs one scene works off.
-const DUE_AT_ONCE: usize = 90;
+const DUE_AT_ONCE: usize = 150;
 
 /// How many tampers one scene has.
 const TAMPERS_AT_ONCE: usize = TAMPERS.len().div_ceil(2);
 
 impl Maker {
     /// Plays the first scenes, works off what is still due, so that every
-    /// bend and every pair of neighbours is on the tape, and goes on with
-    /// random scenes until there are enough entries.
+    /// bend in both editions and every pair of neighbours is on the tape, and goes
+    /// on with random scenes until there are enough entries. On a long tape nothing
+    /// is left due, though there be a few entries more than were asked for.
     pub(super) fn play_scenes(&mut self) {
         if self.random.one_in(2) {
             self.name("before-the-first-ledger");
@@ -107,13 +108,15 @@ impl Maker {
         for scene in first {
             self.play_scene(scene);
         }
-        let benches: [Scene; 2] = [("bench-elsewhere", bench_elsewhere), ("bench", bench)];
+        self.is_beside = self.wanted >= LONG_TAPE;
+        let benches: [Scene; 2] = [("bench", bench), ("bench-elsewhere", bench_elsewhere)];
         for scene in benches.into_iter().cycle() {
             if self.is_done() || self.is_nothing_due() {
                 break;
             }
             self.play_scene(scene);
         }
+        self.is_beside = false;
         while !self.is_done() {
             let scene = *self.random.pick(&LATER);
             self.play_scene(scene);
@@ -125,12 +128,27 @@ impl Maker {
             near_misses(self);
             spent_rows(self);
             pool_runs(self);
+            edition_runs(self);
             if self.wanted > LONG_TAPE {
                 searches(self);
                 rows_not_shown(self);
             }
             depots(self);
         }
+    }
+
+    /// A ledger that is grown in this way, with spare bytes that are not zero, and
+    /// the purse that fits it. A tape that is kept short grows it once.
+    fn grown(&mut self, name: &'static str, grow: Act) -> Ledger {
+        let before = self.grown.remove(name).filter(|_| self.wanted <= LONG_TAPE);
+        let (mut ledger, purse) = before.unwrap_or_else(|| {
+            grow(self);
+            (self.player.ledger.clone(), self.purse.clone())
+        });
+        self.purse = purse.clone();
+        self.grown.insert(name, (ledger.clone(), purse));
+        fill_spare_bytes(&mut self.random, &mut ledger);
+        ledger
     }
 
     fn is_nothing_due(&self) -> bool {
@@ -256,6 +274,21 @@ fn step(maker: &mut Maker) {
 
 /// A day for the bends that are due.
 fn bench(maker: &mut Maker) {
+    let ledger = maker.grown("bench", grow_bench);
+    if maker.player.ledger.tree != ledger.tree {
+        maker.plant(&ledger, "a bench's ledger");
+    }
+    let left = due_cases(maker, DUE_AT_ONCE);
+    // Once the block is closed, the notes of the cases so far can be spent.
+    if left > 0 && !maker.is_nothing_due() {
+        maker.close_block();
+        due_cases(maker, left);
+    }
+    maker.look_at_ledger();
+}
+
+/// A ledger of a few cases and blocks and an open one, with room for many more.
+fn grow_bench(maker: &mut Maker) {
     let table = length_of(&mut maker.random, 60);
     let roll = length_of(&mut maker.random, 10);
     maker.open(table, roll);
@@ -266,13 +299,6 @@ fn bench(maker: &mut Maker) {
         maker.close_block();
     }
     maker.good_case();
-    let left = due_cases(maker, DUE_AT_ONCE);
-    // Once the block is closed, the notes of the cases so far can be spent.
-    if left > 0 && !maker.is_nothing_due() {
-        maker.close_block();
-        due_cases(maker, left);
-    }
-    maker.look_at_ledger();
 }
 
 /// Works off what is due and can be made here, at most so much, and gives back
@@ -315,9 +341,12 @@ fn narrow_rooms(maker: &mut Maker) {
     }
 }
 
-/// A ledger of a few cases and blocks, with room for more. What is given back
-/// is for planting: the same with spare bytes that are not zero.
+/// A ledger of a few cases and blocks, with room for more, for planting.
 fn small_ledger(maker: &mut Maker) -> Ledger {
+    maker.grown("small", grow_small_ledger)
+}
+
+fn grow_small_ledger(maker: &mut Maker) {
     let table = ragged_length(&mut maker.random, 12);
     let roll = ragged_length(&mut maker.random, 6);
     maker.open(table, roll);
@@ -326,9 +355,6 @@ fn small_ledger(maker: &mut Maker) -> Ledger {
     maker.close_block();
     maker.good_case();
     maker.close_block();
-    let mut ledger = maker.player.ledger.clone();
-    fill_spare_bytes(&mut maker.random, &mut ledger);
-    ledger
 }
 
 /// Some of the tampers on a small ledger; two such scenes have them all.
@@ -589,9 +615,9 @@ fn wrong_lengths(maker: &mut Maker) {
     let long = if maker.wanted > LONG_TAPE {
         MAX_BODY_BYTES
     } else {
-        *maker.random.pick(&[65_536, 65_536 + CASE_BYTES])
+        *maker.random.pick(&[65_536, 69_642, 69_746])
     };
-    for length in [0, 1, CASE_BYTES - 1, CASE_BYTES + 1, long] {
+    for length in WRONG_LENGTHS.into_iter().chain([long]) {
         maker.case_of_length(length);
     }
     maker.look_at_ledger();
@@ -839,6 +865,7 @@ fn sharing_cases(maker: &mut Maker) -> (Vec<u8>, Vec<u8>) {
         other.old.swap(0, 1);
     }
     other.seed = maker.random.bytes();
+    other.proof = any_proof(&mut maker.random);
     other.vpub_new = Amount::ZERO;
     set_nullifiers(&mut other);
     balance(&mut maker.random, &mut other);
@@ -859,11 +886,12 @@ pub(super) fn broken_end(random: &mut Random) -> Vec<u8> {
 
 /// The tape ends inside an entry.
 fn cut_entry(random: &mut Random) -> Vec<u8> {
-    let whole = entry(b'C', &[1; CASE_BYTES]);
+    let case_bytes = random.pick(&Edition::ALL).case_bytes();
+    let whole = entry(b'C', &vec![1; case_bytes]);
     let length = match random.below(3) {
         0 => 1 + random.below(4),
         1 => whole.len() - 1,
-        _ => 5 + random.below(CASE_BYTES),
+        _ => 5 + random.below(case_bytes),
     };
     whole[..length].to_vec()
 }

@@ -28,6 +28,16 @@ MAX_MONEY = 2_100_000_000_000_000
 DEPTH = 29
 MAX_BAG = 65_536
 
+# The editions of a case's description, each as the length of its proof. What stands behind the proof starts 104 bytes
+# earlier in the second.
+FIRST, SECOND = 296, 192
+PROOF = 304  # where it starts, in both
+KEY = {FIRST: 1802, SECOND: 1698}  # where the transaction key does, right behind the description
+OLD = {FIRST: [1834, 2902], SECOND: [1730, 2798]}
+NEW = {FIRST: [3970, 4074], SECOND: [3866, 3970]}
+PHI = {FIRST: 4178, SECOND: 4074}
+LENGTH = {FIRST: 4210, SECOND: 4106}
+
 
 # ---- SHA-256's compression (FIPS 180-4) ------------------------------------------------------
 
@@ -151,8 +161,11 @@ def old_note(label, value=0):
     }
 
 
-def case(label, vpub_old=0, vpub_new=0, old=None, new=(0, 0), anchor=None):
-    """A case that is right in itself: all that it claims is what its notes and keys give."""
+def case(label, vpub_old=0, vpub_new=0, old=None, new=(0, 0), anchor=None, edition=FIRST):
+    """A case that is right in itself: all that it claims is what its notes and keys give.
+
+    In another edition the same label and amounts give the same case: nothing but the proof's length differs.
+    """
     old = old or [old_note(label + " old 1"), old_note(label + " old 2")]
     phi = short_key(label + " phi")
     seed = secret(label + " seed")
@@ -171,7 +184,7 @@ def case(label, vpub_old=0, vpub_new=0, old=None, new=(0, 0), anchor=None):
         b"\x11" * 32,  # the ephemeral key: carried, and never checked
         seed,
         *(mac(i, n["a_sk"], h_sig) for i, n in enumerate(old, 1)),
-        b"\x22" * 296,  # the proof: likewise
+        b"\x22" * edition,  # the proof: likewise
         b"\x33" * (2 * 601),  # the ciphertexts: likewise
     ])
     witness = b"".join([
@@ -181,7 +194,7 @@ def case(label, vpub_old=0, vpub_new=0, old=None, new=(0, 0), anchor=None):
         phi,
     ])
     file = description + key + witness
-    assert len(description) == 1802 and len(file) == 4210
+    assert len(description) == KEY[edition] and len(file) == LENGTH[edition]
     return file
 
 
@@ -189,11 +202,27 @@ def with_byte_changed(file, at):
     return file[:at] + bytes([file[at] ^ 1]) + file[at + 1:]
 
 
+def edition_of(file):
+    """The edition of a file that is whole, by its length."""
+    return {length: edition for edition, length in LENGTH.items()}[len(file)]
+
+
 def with_carried_changed(file):
     """Every bit of the ephemeral key, the proof and the ciphertexts turned over, and no other."""
     def turned(start, end):
         return bytes(b ^ 0xFF for b in file[start:end])
-    return file[:176] + turned(176, 208) + file[208:304] + turned(304, 1802) + file[1802:]
+    key = KEY[edition_of(file)]
+    return file[:176] + turned(176, 208) + file[208:PROOF] + turned(PROOF, key) + file[key:]
+
+
+def with_proof(file, proof):
+    """The file with other bytes for its proof, as many as one likes."""
+    return file[:PROOF] + proof + file[PROOF + edition_of(file):]
+
+
+def in_second_edition(file):
+    """The same case in the second edition, and every byte that is carried is another one."""
+    return with_carried_changed(with_proof(file, bytes(SECOND)))
 
 
 # ---- Bags ------------------------------------------------------------------------------------
@@ -284,13 +313,29 @@ def samples():
     ]
 
     most = case("most", vpub_old=MAX_MONEY, new=(MAX_MONEY - 1, 1))
+    yield "refusals", *seven_reasons(most)
+
+    yield "full-pool", bag(seal(0, 100.0), most, case("one more", vpub_old=1, new=(1, 0))), [
+        "seal 0 0",
+        "case 0 0",  # all money: the pool is as full as it may be
+        "case 17 0",  # one more
+        f"ledger spent 2 leaves 2 pool {MAX_MONEY}",
+    ]
+
+    data, explained = spent_again()
+    yield "spent", data, without_rows(explained)
+    yield "both-editions", *both_editions()
+
+
+def seven_reasons(most):
+    """A bag of seven cases, of which one puts in the most and passes, and its lines."""
     two_sided = case("two-sided", vpub_old=7, vpub_new=7)
     elsewhere = case("elsewhere", anchor=secret("another root"))
     spends_again = case("spends again", old=[old_note("unspent"), old_note("most old 2")])
     from_nowhere = case("from nowhere", old=[old_note("valued", 5), old_note("empty")], new=(5, 0))
     claims_wrong = with_byte_changed(case("claims wrong", vpub_old=1, new=(1, 0)), 112 + 32)
     seven = [b"", two_sided, elsewhere, most, spends_again, from_nowhere, claims_wrong]
-    yield "refusals", bag(seal(1, 51.0, 51.0), *seven), [
+    return bag(seal(1, 51.0, 51.0), *seven), [
         "seal 0 0",  # the limit itself passes
         "case 1 0",  # a case of no bytes
         "case 4 0",  # both public values are 7
@@ -302,15 +347,25 @@ def samples():
         f"ledger spent 2 leaves 2 pool {MAX_MONEY}",
     ]
 
-    yield "full-pool", bag(seal(0, 100.0), most, case("one more", vpub_old=1, new=(1, 0))), [
-        "seal 0 0",
-        "case 0 0",  # all money: the pool is as full as it may be
-        "case 17 0",  # one more
-        f"ledger spent 2 leaves 2 pool {MAX_MONEY}",
-    ]
 
-    data, explained = spent_again()
-    yield "spent", data, without_rows(explained)
+def both_editions():
+    """A bag that mixes both editions, and its lines."""
+    one = case("mixed, one", vpub_old=300, new=(100, 200))
+    two = case("mixed, two", vpub_old=70, new=(70, 0), edition=SECOND)
+    three = case("mixed, three", vpub_old=5, new=(2, 3), edition=SECOND)
+    wrong = with_byte_changed(case("mixed, wrong", vpub_old=1, new=(1, 0), edition=SECOND), KEY[SECOND])
+    two_in_first = case("mixed, two", vpub_old=70, new=(70, 0))
+    return bag(seal(0, 100.0), one, in_second_edition(one), two, two_in_first, three[:-1], three, wrong), [
+        "seal 0 0",
+        "case 0 0",  # of the first edition
+        "case 8 1",  # the same in the second edition, with another proof and other ciphertexts: the same nullifiers
+        "case 0 0",  # of the second edition
+        "case 8 1",  # the same in the first edition
+        "case 1 0",  # 4,105 bytes: of the second edition, but for the last byte
+        "case 0 0",  # and with it
+        "case 14 1",  # a bit of the transaction key is changed, where the second edition has it: of another hSig both tags are wrong
+        "ledger spent 6 leaves 6 pool 375",
+    ]
 
 
 # ---- The tray: each bag behind its length ------------------------------------------------------
@@ -342,6 +397,41 @@ def lengths():
     ]
     # Short of the anchor's end, at it, and of a length whose low byte is that of 4,210. A case of no bytes is in "refusals".
     yield "cases-cut-short", bag(OPEN, whole[:47], whole[:48], whole[:4210 % 256]), ["seal 0 0", *["case 1 0"] * 3, EMPTY]
+
+
+def edition_lengths():
+    """The same around the second edition's length, and files of one edition that have the other one's length."""
+    first, second = (case("edition lengths", vpub_old=3, new=(1, 2), edition=edition) for edition in (FIRST, SECOND))
+    yield "cases-around-4106", bag(OPEN, second[:-1], second + b"-", second), [
+        "seal 0 0",
+        "case 1 0",  # 4,105 bytes
+        "case 1 0",  # 4,107 bytes, of which the first 4,106 would pass
+        "case 0 0",
+        "ledger spent 2 leaves 2 pool 3",
+    ]
+    # Of a length whose low byte is that of 4,106, short of where the proof ends, and at its end and the description's.
+    short = [second[:4106 % 256], second[:PROOF + SECOND - 1], second[:PROOF + SECOND], second[:KEY[SECOND]]]
+    yield "second-edition-cut-short", bag(OPEN, *short), ["seal 0 0", *["case 1 0"] * 4, EMPTY]
+    # Right but for the proof's length, which is neither 296 nor 192: these are of no edition.
+    others = [with_proof(first, b"\x22" * proof) for proof in (0, 191, 193, 244, 295, 297)]
+    yield "proofs-of-other-lengths", bag(OPEN, *others, first), [
+        "seal 0 0", *["case 1 0"] * 6, "case 0 0", "ledger spent 2 leaves 2 pool 3",
+    ]
+    # The same with 256 bytes more than a proof has, so that the lowest byte of the file's length is a case's.
+    longer = [with_proof(first, b"\x22" * (256 + proof)) for proof in (FIRST, SECOND)]
+    yield "proofs-of-256-more", bag(OPEN, *longer), ["seal 0 0", *["case 1 0"] * 2, EMPTY]
+    # The same a step of 104 bytes, by which the two proofs differ, below the shorter one and above the longer one; and parts of that step between.
+    steps = [with_proof(first, b"\x22" * proof) for proof in (SECOND - 104, FIRST + 104, FIRST + 208, SECOND + 26, SECOND + 78)]
+    yield "proofs-104-apart", bag(OPEN, *steps), ["seal 0 0", *["case 1 0"] * 5, EMPTY]
+    # The length alone says the edition. Where the second one has its first key, this file has a ciphertext, bytes of
+    # 0x33: the top four bits are not zero.
+    cut = first[:LENGTH[SECOND]]
+    assert cut[OLD[SECOND][0]] == 0x33
+    yield "first-edition-cut-to-4106", bag(OPEN, cut), answered("9 1", spent=0, pool=0)
+    # And where the first one has it, this file has the r of its first old note, whose top four bits are not zero either.
+    lengthened = second + bytes(LENGTH[FIRST] - LENGTH[SECOND])
+    assert OLD[FIRST][0] == OLD[SECOND][0] + 104 and lengthened[OLD[FIRST][0]] & 0xF0 != 0
+    yield "second-edition-lengthened-to-4210", bag(OPEN, lengthened), answered("9 1", spent=0, pool=0)
 
 
 def layouts():
@@ -415,10 +505,13 @@ def seals():
             yield f"{name}-with-byte-{at}", bag(with_byte_changed(body, at), b""), BROKEN
 
 
-def refused_cases():
+def refused_cases(edition):
     """For each number and place that a fresh ledger can give to its first case: one that is right but for that."""
+    def made(label, **more):
+        return case(f"refused {label}", edition=edition, **more)
+
     def right(label, **more):
-        return case(f"refused {label}", vpub_old=9, new=(4, 5), **more)
+        return made(label, vpub_old=9, new=(4, 5), **more)
 
     def changed(label, at):
         return with_byte_changed(right(label), at)
@@ -427,21 +520,21 @@ def refused_cases():
         file = right(label)
         return file[:at] + bytes([file[at] | 0x10]) + file[at + 1:]
 
-    old, new, phi = [1834, 2902], [3970, 4074], 4178
+    old, new = OLD[edition], NEW[edition]
     twice = old_note("refused twice")
     yield 1, 0, right("length")[:-1]
-    yield 4, 0, case("refused both", vpub_old=9, vpub_new=9)
-    yield 5, 1, case("refused 5 1", vpub_old=MAX_MONEY + 1, new=(MAX_MONEY + 1, 0))
-    yield 5, 2, case("refused 5 2", vpub_new=MAX_MONEY + 1, old=[old_note("much", MAX_MONEY + 1), old_note("none")])
+    yield 4, 0, made("both", vpub_old=9, vpub_new=9)
+    yield 5, 1, made("5 1", vpub_old=MAX_MONEY + 1, new=(MAX_MONEY + 1, 0))
+    yield 5, 2, made("5 2", vpub_new=MAX_MONEY + 1, old=[old_note("much", MAX_MONEY + 1), old_note("none")])
     yield 6, 0, right("anchor", anchor=secret("another root"))
     yield 7, 0, right("twice", old=[twice, twice])
     for i in (1, 2):
         yield 9, i, topped(f"key {i}", old[i - 1])
-    yield 9, 3, topped("phi", phi)
+    yield 9, 3, topped("phi", PHI[edition])
     for i in (1, 2):
         notes = [old_note(f"stray {i} {k}", 9 if k == i else 0) for k in (1, 2)]
-        yield 10, i, case(f"refused stray {i}", old=notes, new=(9, 0))
-    yield 11, 0, case("refused balance", vpub_old=9, new=(4, 4))
+        yield 10, i, made(f"stray {i}", old=notes, new=(9, 0))
+    yield 11, 0, made("balance", vpub_old=9, new=(4, 4))
     for number, places in [
         (12, [48, 80]),  # the nullifiers
         (13, [at + 32 for at in old]),  # the old notes' addresses
@@ -453,27 +546,47 @@ def refused_cases():
             yield number, i, changed(f"{number} {i}", at)
 
 
+def spent_before(edition):
+    """Cases that share their first or their second old note with the one that is called before."""
+    def shares(label, *notes):
+        return case(label, vpub_old=1, new=(1, 0), old=[old_note(note) for note in notes], edition=edition)
+
+    yield 8, 1, shares("spent again", "before old 1", "own")
+    yield 8, 2, shares("second spent", "own too", "before old 2")
+
+
 def refusals():
     """Each of them as the first case of a bag and as a later one; the case before it and behind it passes."""
     before, behind = case("before", vpub_old=1, new=(1, 0)), case("behind", vpub_old=2, new=(0, 2))
-    for number, place, refused in refused_cases():
+    for number, place, refused in refused_cases(FIRST):
         answer = f"case {number} {place}"
         name = f"refused-{number}-{place}"
         yield f"{name}-first", bag(OPEN, refused, behind), ["seal 0 0", answer, "case 0 0", "ledger spent 2 leaves 2 pool 2"]
         yield f"{name}-later", bag(OPEN, before, refused, behind), [
             "seal 0 0", "case 0 0", answer, "case 0 0", "ledger spent 4 leaves 4 pool 3",
         ]
-    spent = case("spent again", vpub_old=1, new=(1, 0), old=[old_note("before old 1"), old_note("own")])
-    second = case("second spent", vpub_old=1, new=(1, 0), old=[old_note("own too"), old_note("before old 2")])
-    for place, refused in [(1, spent), (2, second)]:
-        yield f"refused-8-{place}-later", bag(OPEN, before, refused, behind), [
-            "seal 0 0", "case 0 0", f"case 8 {place}", "case 0 0", "ledger spent 4 leaves 4 pool 3",
+    for number, place, refused in spent_before(FIRST):
+        yield f"refused-{number}-{place}-later", bag(OPEN, before, refused, behind), [
+            "seal 0 0", "case 0 0", f"case {number} {place}", "case 0 0", "ledger spent 4 leaves 4 pool 3",
         ]
     # The pool has room for 2 more, which is just what the case behind puts in.
     full, above = puts("nearly full", MAX_MONEY - 2), puts("above", 3)
     yield "refused-17-0-later", bag(OPEN, full, above, behind), [
         "seal 0 0", "case 0 0", "case 17 0", "case 0 0", f"ledger spent 4 leaves 4 pool {MAX_MONEY}",
     ]
+
+
+def refusals_in_second_edition():
+    """The same in the second edition, each behind a case of the first edition that passes and before one of the second."""
+    before, behind = case("before", vpub_old=1, new=(1, 0)), case("behind", vpub_old=2, new=(0, 2), edition=SECOND)
+    for number, place, refused in [*refused_cases(SECOND), *spent_before(SECOND)]:
+        yield f"refused-{number}-{place}-in-second-edition", bag(OPEN, before, refused, behind), answered(
+            "0 0", f"{number} {place}", "0 0", spent=4, pool=3,
+        )
+    full, above = puts("nearly full", MAX_MONEY - 2), puts("above", 3, edition=SECOND)
+    yield "refused-17-0-in-second-edition", bag(OPEN, full, above, behind), answered(
+        "0 0", "17 0", "0 0", spent=4, pool=MAX_MONEY,
+    )
 
 
 def answered(*answers, spent, pool):
@@ -518,6 +631,49 @@ def pools():
     yield "pool-8-before-17", bag(OPEN, all_money, all_money), answered("0 0", "8 1", spent=2, pool=MAX_MONEY)
 
 
+# The notes of the pairs' case A, which others may spend, too.
+A_FIRST, A_SECOND = old_note("pair A old 1"), old_note("pair A old 2")
+
+
+def a_and_b():
+    """Two cases without a nullifier in common."""
+    a = case("pair A", vpub_old=100, new=(60, 40), old=[A_FIRST, A_SECOND])
+    return a, case("pair B", vpub_old=7, new=(0, 7))
+
+
+def sharing(label, one=None, two=None):
+    """A case that puts 5 in and spends these old notes, and its own where none is given."""
+    notes = [one or old_note(f"{label} own"), two or old_note(f"{label} own")]
+    return case(label, vpub_old=5, new=(5, 0), old=notes)
+
+
+def sharing_cases():
+    """Each of these five would pass alone, and has old notes in common with A.
+
+    Beside it: what it is answered after A, and what A is answered after it. A place is that of the nullifier in
+    the case that is refused, and where both of its nullifiers are spent the lower one counts.
+    """
+    yield "first-is-first", sharing("first is first", one=A_FIRST), "8 1", "8 1"
+    yield "second-is-second", sharing("second is second", two=A_SECOND), "8 2", "8 2"
+    yield "second-is-first", sharing("second is first", two=A_FIRST), "8 2", "8 1"
+    yield "first-is-second", sharing("first is second", one=A_SECOND), "8 1", "8 2"
+    yield "both-exchanged", sharing("both, exchanged", one=A_SECOND, two=A_FIRST), "8 1", "8 1"
+
+
+def wrong_cases():
+    """Cases that are refused wherever they stand: a commitment is wrong, and the anchor is not on the roll."""
+    yield "claims-wrong", with_byte_changed(case("pair claims wrong", vpub_old=1, new=(1, 0)), 112), "16 1"
+    yield "anchored-elsewhere", case("pair elsewhere", anchor=secret("another root")), "6 0"
+
+
+def shares_and_claims_wrong():
+    return with_byte_changed(sharing("shares and claims wrong", one=A_FIRST), 112)
+
+
+def judged(*cases):
+    return bag(OPEN, *cases)
+
+
 def pairs():
     """The third demand's pairs: each case alone, and then two of them in both orders.
 
@@ -525,58 +681,30 @@ def pairs():
     has a value, so that none needs a path; two cases share a nullifier where they have an old note in
     common, its key and its rho.
     """
-    first, second = old_note("pair A old 1"), old_note("pair A old 2")
-    a = case("pair A", vpub_old=100, new=(60, 40), old=[first, second])
-    b = case("pair B", vpub_old=7, new=(0, 7))
-
-    def judged(*cases):
-        return bag(OPEN, *cases)
-
+    a, b = a_and_b()
     yield "a-alone", judged(a), answered("0 0", spent=2, pool=100)
     yield "b-alone", judged(b), answered("0 0", spent=2, pool=7)
     # No nullifier in common: both orders pass and end alike.
     yield "a-then-b", judged(a, b), answered("0 0", "0 0", spent=4, pool=107)
     yield "b-then-a", judged(b, a), answered("0 0", "0 0", spent=4, pool=107)
+    for name, shares, after_a, a_after in sharing_cases():
+        yield from sharing_pair(name, shares, after_a, a_after)
 
-    # Each of these five would pass alone, puts 5 in and has old notes in common with A. Beside it: what
-    # it is answered after A, and what A is answered after it. A place is that of the nullifier in the
-    # case that is refused, and where both of its nullifiers are spent the lower one counts.
-    def sharing(label, one=None, two=None):
-        notes = [one or old_note(f"{label} own"), two or old_note(f"{label} own")]
-        return case(label, vpub_old=5, new=(5, 0), old=notes)
-
-    for name, shares, after_a, a_after in [
-        ("first-is-first", sharing("first is first", one=first), "8 1", "8 1"),
-        ("second-is-second", sharing("second is second", two=second), "8 2", "8 2"),
-        ("second-is-first", sharing("second is first", two=first), "8 2", "8 1"),
-        ("first-is-second", sharing("first is second", one=second), "8 1", "8 2"),
-        ("both-exchanged", sharing("both, exchanged", one=second, two=first), "8 1", "8 1"),
-    ]:
-        yield f"{name}-alone", judged(shares), answered("0 0", spent=2, pool=5)
-        yield f"{name}-after-a", judged(a, shares), answered("0 0", after_a, spent=2, pool=100)
-        yield f"a-after-{name}", judged(shares, a), answered("0 0", a_after, spent=2, pool=5)
-
-    # One is refused whether it is alone, first or last, and A passes: a commitment is wrong, the anchor
-    # is not on the roll, and a file of the wrong length, which has no nullifiers though its bytes are A's.
-    for name, refused, answer in [
-        ("claims-wrong", with_byte_changed(case("pair claims wrong", vpub_old=1, new=(1, 0)), 112), "16 1"),
-        ("anchored-elsewhere", case("pair elsewhere", anchor=secret("another root")), "6 0"),
-        ("a-cut-short", a[:-1], "1 0"),
-    ]:
-        yield f"{name}-alone", judged(refused), answered(answer, spent=0, pool=0)
-        yield f"{name}-then-a", judged(refused, a), answered(answer, "0 0", spent=2, pool=100)
-        yield f"a-then-{name}", judged(a, refused), answered("0 0", answer, spent=2, pool=100)
+    # One is refused whether it is alone, first or last, and A passes; so is a file of the wrong length, which
+    # has no nullifiers though its bytes are A's.
+    for name, refused, answer in [*wrong_cases(), ("a-cut-short", a[:-1], "1 0")]:
+        yield from refused_pair(name, refused, answer)
 
     # Neither half of the demand speaks of this pair: they share a nullifier, and one would not pass alone.
     # Here the order does show, since 8 is asked before 16.
-    faulty = with_byte_changed(sharing("shares and claims wrong", one=first), 112)
+    faulty = shares_and_claims_wrong()
     yield "shares-and-claims-wrong-alone", judged(faulty), answered("16 1", spent=0, pool=0)
     yield "shares-and-claims-wrong-then-a", judged(faulty, a), answered("16 1", "0 0", spent=2, pool=100)
     yield "a-then-shares-and-claims-wrong", judged(a, faulty), answered("0 0", "8 1", spent=2, pool=100)
 
     # Refused for its second nullifier, a case leaves nothing of its first one: a third case may spend it.
     left = old_note("left unspent")
-    spoilt = sharing("spoilt", one=left, two=second)
+    spoilt = sharing("spoilt", one=left, two=A_SECOND)
     again = sharing("spends what was left", one=left)
     yield "refused-leaves-its-first-unspent", judged(a, spoilt, again), answered("0 0", "8 2", "0 0", spent=4, pool=105)
 
@@ -585,6 +713,50 @@ def pairs():
     yield "a-with-carried-changed", judged(carried), answered("0 0", spent=2, pool=100)
     yield "a-then-a-with-carried-changed", judged(a, carried), answered("0 0", "8 1", spent=2, pool=100)
     yield "a-with-carried-changed-then-b", judged(carried, b), answered("0 0", "0 0", spent=4, pool=107)
+
+
+def sharing_pair(name, shares, after_a, a_after):
+    """A case that would pass alone and shares a nullifier with A: whichever is later is refused."""
+    a, _ = a_and_b()
+    yield f"{name}-alone", judged(shares), answered("0 0", spent=2, pool=5)
+    yield f"{name}-after-a", judged(a, shares), answered("0 0", after_a, spent=2, pool=100)
+    yield f"a-after-{name}", judged(shares, a), answered("0 0", a_after, spent=2, pool=5)
+
+
+def refused_pair(name, refused, answer):
+    """A case that is refused alone, before A and after it."""
+    a, _ = a_and_b()
+    yield f"{name}-alone", judged(refused), answered(answer, spent=0, pool=0)
+    yield f"{name}-then-a", judged(refused, a), answered(answer, "0 0", spent=2, pool=100)
+    yield f"a-then-{name}", judged(a, refused), answered("0 0", answer, spent=2, pool=100)
+
+
+def edition_pairs():
+    """The same pairs with one file in the second edition: all answers and ledgers are those of the first edition.
+
+    A in the second edition is A but for what is carried: its ephemeral key, its proof and its ciphertexts are other
+    bytes, and the proof is shorter.
+    """
+    a, b = a_and_b()
+    a_2, b_2 = in_second_edition(a), in_second_edition(b)
+    yield "a-in-second-edition", judged(a_2), answered("0 0", spent=2, pool=100)
+    yield "b-in-second-edition", judged(b_2), answered("0 0", spent=2, pool=7)
+    # One case in two editions spends the same notes, whichever edition comes first.
+    yield "a-then-a-in-second-edition", judged(a, a_2), answered("0 0", "8 1", spent=2, pool=100)
+    yield "a-in-second-edition-then-a", judged(a_2, a), answered("0 0", "8 1", spent=2, pool=100)
+    yield "a-then-b-in-second-edition", judged(a, b_2), answered("0 0", "0 0", spent=4, pool=107)
+    yield "b-in-second-edition-then-a", judged(b_2, a), answered("0 0", "0 0", spent=4, pool=107)
+    yield "a-then-b-both-in-second-edition", judged(a_2, b_2), answered("0 0", "0 0", spent=4, pool=107)
+    yield "b-then-a-both-in-second-edition", judged(b_2, a_2), answered("0 0", "0 0", spent=4, pool=107)
+    for name, shares, after_a, a_after in sharing_cases():
+        yield from sharing_pair(f"{name}-in-second-edition", in_second_edition(shares), after_a, a_after)
+    for name, refused, answer in wrong_cases():
+        yield from refused_pair(f"{name}-in-second-edition", in_second_edition(refused), answer)
+    yield from refused_pair("a-in-second-edition-cut-short", a_2[:-1], "1 0")
+    # Of this pair neither half of the demand speaks, and the order shows: see above.
+    name, faulty = "shares-and-claims-wrong-in-second-edition", in_second_edition(shares_and_claims_wrong())
+    yield f"{name}-then-a", judged(faulty, a), answered("16 1", "0 0", spent=2, pool=100)
+    yield f"a-then-{name}", judged(a, faulty), answered("0 0", "8 1", spent=2, pool=100)
 
 
 def pool_pairs():
@@ -609,12 +781,27 @@ def pool_pairs():
     yield "shares-with-c-then-c", bag(OPEN, shares, c), answered("0 0", "8 1", spent=2, pool=11)
 
 
+def edition_pool_pairs():
+    """Those of them that meet at the bound, with the second one in the second edition."""
+    c, d, e = puts("pair C", MAX_MONEY - 10), puts("pair D", 10, edition=SECOND), puts("pair E", 11, edition=SECOND)
+    yield "c-then-d-in-second-edition", bag(OPEN, c, d), answered("0 0", "0 0", spent=4, pool=MAX_MONEY)
+    yield "d-in-second-edition-then-c", bag(OPEN, d, c), answered("0 0", "0 0", spent=4, pool=MAX_MONEY)
+    yield "c-then-e-in-second-edition", bag(OPEN, c, e), answered("0 0", "17 0", spent=2, pool=MAX_MONEY - 10)
+    yield "e-in-second-edition-then-c", bag(OPEN, e, c), answered("0 0", "17 0", spent=2, pool=11)
+    # E's bytes but for the last: 4,105 of them ask for nothing.
+    yield "c-then-e-in-second-edition-cut-short", bag(OPEN, c, e[:-1]), answered("0 0", "1 0", spent=2, pool=MAX_MONEY - 10)
+    yield "e-in-second-edition-cut-short-then-c", bag(OPEN, e[:-1], c), answered("1 0", "0 0", spent=2, pool=MAX_MONEY - 10)
+
+
 NAMED = 2 ** 31  # a length from here on is that of a name
 
 
 def tray():
     """The bytes of the tray and its lines, a name before each bag. It ends inside a bag, which ends the run."""
-    runs = [*samples(), *lengths(), *layouts(), *seals(), *refusals(), *pools(), *pairs(), *pool_pairs()]
+    runs = [
+        *samples(), *lengths(), *layouts(), *seals(), *refusals(), *pools(), *pairs(), *pool_pairs(),
+        *edition_lengths(), *refusals_in_second_edition(), *edition_pairs(), *edition_pool_pairs(),
+    ]
     assert len({name for name, _, _ in runs}) == len(runs)
     stored, printed = b"", []
     for name, data, lines in runs:

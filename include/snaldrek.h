@@ -57,7 +57,12 @@ uint32_t snaldrek_version(void);
 
 /* ---- Sizes, in bytes unless they count rows ---- */
 
-#define SNALDREK_CASE_BYTES 4210         /* a case file; any other length is refused with 1 */
+/* A case file tells its edition by its length alone, and any other length is refused with 1. Files of both editions
+   may be judged on one ledger and in one bag. */
+#define SNALDREK_CASE_FIRST_EDITION_BYTES 4210  /* with a proof of 296 bytes */
+#define SNALDREK_CASE_SECOND_EDITION_BYTES 4106 /* with one of 192; what stands behind it starts 104 bytes earlier */
+#define SNALDREK_CASE_MAX_BYTES 4210            /* room for either */
+
 #define SNALDREK_BAG_MAX_BYTES 65536     /* the longest bag */
 #define SNALDREK_BAG_MAX_CASES 7         /* the most cases in a bag */
 #define SNALDREK_SEAL_BYTES 25           /* a seal's body in a bag */
@@ -91,7 +96,7 @@ enum snaldrek_number {
     SNALDREK_ACCEPTED = 0,
 
     /* of a case, in the order in which they are looked for */
-    SNALDREK_WRONG_LENGTH = 1,          /* not SNALDREK_CASE_BYTES; opening: the roll has no row */
+    SNALDREK_WRONG_LENGTH = 1,          /* of neither edition's length; opening: the roll has no row */
     SNALDREK_LEDGER_DAMAGED = 2,        /* the ledger's bytes cannot have come from these calls */
     SNALDREK_NO_FREE_ROW = 3,           /* fewer than two table rows; closing: no roll row */
     SNALDREK_BOTH_PUBLIC_VALUES = 4,    /* one of the two must be zero */
@@ -150,7 +155,7 @@ enum snaldrek_buffer {
    zeros has no anchor, and every later call refuses it with 2). */
 uint32_t snaldrek_open(uint8_t *ledger, size_t ledger_len, uint8_t *roll, size_t roll_len);
 
-/* Judges one case. Accepted, its nullifiers are in the table, its commitments in the tree and its
+/* Judges one case, of either edition. Accepted, its nullifiers are in the table, its commitments in the tree and its
    public values in the pool.
    51 1: the ledger's length. Then 1 to 17, the first that applies; with 8, the spent nullifier stands at
    table + SNALDREK_ROW_BYTES * SNALDREK_ROW(answer). */

@@ -3,7 +3,7 @@
  * more: 3 where a case or a block finds no free row, 2 where more are used than there can be, and acceptance else.
  * Every byte of table and roll is then what it has to be, and a refusal changes no byte of the ledger either.
  *
- *     depot BAG               a bag whose first case passes on a fresh ledger
+ *     depot BAG               a bag whose first case passes on a fresh ledger, and is of the first edition
  */
 #include <stdio.h>
 #include <string.h>
@@ -69,7 +69,7 @@ struct ledger {
     uint8_t bytes[SNALDREK_LEDGER_BYTES], table[TABLE_ROWS * ROW], roll[ROLL_ROWS * ROW];
 };
 
-static uint8_t bag[SNALDREK_BAG_MAX_BYTES], file[SNALDREK_CASE_BYTES];
+static uint8_t bag[SNALDREK_BAG_MAX_BYTES], file[SNALDREK_CASE_FIRST_EDITION_BYTES];
 static struct ledger ours, right; /* what the calls made, and what they had to make */
 static size_t table_len, roll_len;
 static int failures;

@@ -3,7 +3,8 @@
  * ledgers whose pool is at a bound, near it or past it: 17 where the pool would leave the bounds, 2 where it
  * is outside them already, and acceptance else, with the pool moved by that amount. A refusal changes no byte.
  *
- *     pool BAG                a bag whose first case passes, with old notes without a value and paths of zeros
+ *     pool BAG                a bag whose first case passes, of the first edition, its old notes without a value and
+ *                             with paths of zeros
  */
 #include <stdio.h>
 #include <string.h>
@@ -18,8 +19,8 @@
 #define LEAVES 24
 #define NODES 28
 
-/* Where a case has its public values, its anchor, its first commitment, and the notes that belong to it. A new
-   note is address, value, rho and r, and so is an old one behind its key and before its position. */
+/* Where a case of the first edition has its public values, its anchor, its first commitment, and the notes that belong
+   to it. A new note is address, value, rho and r, and so is an old one behind its key and before its position. */
 #define IN 0
 #define OUT 8
 #define ANCHOR 16
@@ -57,7 +58,7 @@ static const struct trial trials[] = {
     {"a pool of 2^64 - 1, to which one is added", UINT64_MAX, 1, 0, SNALDREK_LEDGER_DAMAGED},
 };
 
-static uint8_t bag[SNALDREK_BAG_MAX_BYTES], file[SNALDREK_CASE_BYTES];
+static uint8_t bag[SNALDREK_BAG_MAX_BYTES], file[SNALDREK_CASE_FIRST_EDITION_BYTES];
 static uint8_t ledger[SNALDREK_LEDGER_BYTES], table[2 * SNALDREK_ROW_BYTES], roll[2 * SNALDREK_ROW_BYTES];
 static int failures;
 

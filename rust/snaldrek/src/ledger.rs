@@ -8,8 +8,6 @@ use crate::calls;
 use crate::refusal::{Answer, Refusal};
 use crate::seal::Calibration;
 
-/// The length of a case file.
-pub const CASE_BYTES: usize = 4_210;
 /// The length of the longest bag.
 pub const MAX_BAG_BYTES: usize = 65_536;
 /// The length of a ledger beside its table and its roll.
@@ -60,7 +58,7 @@ impl Ledger {
         (&self.bytes, &self.table, &self.roll)
     }
 
-    /// Judges a case file, and enters what is accepted.
+    /// Judges a case file of either edition, and enters what is accepted.
     pub fn judge(&mut self, file: &[u8]) -> Answer {
         Refusal::answer(calls::judge(
             file,

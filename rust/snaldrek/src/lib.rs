@@ -7,7 +7,7 @@
 //! Nothing here judges: the library does, and this crate lends it memory and
 //! reads its answers. Those who keep a ledger in memory of their own call
 //! [`calls`], which is the C header over slices. Without the feature `alloc`
-//! these, the [`Tally`] and the seal are all there is.
+//! these, the [`Tally`], the seal and a case's [`Edition`] are all there is.
 //!
 //! ```
 //! use snaldrek::{judge_seal, Calibration, Ledger, Refusal};
@@ -29,6 +29,7 @@ extern crate alloc;
 
 mod books;
 pub mod calls;
+mod edition;
 #[cfg(feature = "alloc")]
 mod ledger;
 mod refusal;
@@ -37,9 +38,10 @@ mod seal;
 pub use books::Tally;
 #[cfg(feature = "alloc")]
 pub use books::{DayAnswer, DayList, DayRow};
+pub use edition::{Edition, MAX_CASE_BYTES};
 #[cfg(feature = "alloc")]
 pub use ledger::{
-    Ledger, CASE_BYTES, LEDGER_BYTES, MAX_ANCHORS, MAX_BAG_BYTES, MAX_MONEY, MAX_SPENT, ROW_BYTES,
+    Ledger, LEDGER_BYTES, MAX_ANCHORS, MAX_BAG_BYTES, MAX_MONEY, MAX_SPENT, ROW_BYTES,
 };
 pub use refusal::{Answer, Bound, Buffer, Pair, Refusal, TableRow, Unnamed};
 pub use seal::{judge_seal, Calibration, SEAL_BYTES};

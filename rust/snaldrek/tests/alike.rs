@@ -4,24 +4,25 @@
 
 mod common;
 
-use common::{assert_alike, assert_answer, entries, same_ledger};
+use common::{assert_alike, assert_answer, entries, in_edition, other, same_ledger};
 use second::judge::judge;
 use second::ledger::Ledger as PlainLedger;
 use second::maker::make_tape;
 use second::random::Random;
 use second::seal::{judge_seal as plain_judge_seal, Calibration as PlainCalibration, Seal};
 use second::tape::Player;
-use snaldrek::{calls, judge_seal, Calibration, Ledger, Refusal, LEDGER_BYTES};
+use snaldrek::{calls, judge_seal, Answer, Calibration, Edition, Ledger, Refusal, LEDGER_BYTES};
 
 const ENTRIES: usize = 700;
 
 /// Both judges' ledgers, how many cases they have judged, how many of these in
-/// a large table, and the dice.
+/// a large table, how many of each edition were accepted, and the dice.
 struct Pair {
     ours: Ledger,
     theirs: PlainLedger,
     cases: usize,
     large: usize,
+    accepted: [usize; 2],
     random: Random,
 }
 
@@ -75,8 +76,20 @@ impl Pair {
             answer.is_ok() || self.ours == before,
             "a refusal changes no byte"
         );
+        if let Some(edition) = Edition::of_case(file) {
+            self.accepted[edition as usize] += usize::from(answer.is_ok());
+            let file = in_edition(&mut self.random, file, other(edition));
+            self.hold_other_edition(before, &file, answer);
+        }
         self.cases += 1;
         self.large += usize::from(self.theirs.spent >= 65_534);
+    }
+
+    /// The same case in the other edition, on the ledger as it was before: the
+    /// same answer, and the same bytes after it.
+    fn hold_other_edition(&self, mut before: Ledger, file: &[u8], answer: Answer) {
+        assert_eq!(before.judge(file), answer, "in the other edition");
+        assert!(before == self.ours, "the ledger after the other edition");
     }
 
     /// The case with one bit turned over, on copies of the ledgers.
@@ -163,6 +176,7 @@ fn play_tape(seed: u64) -> Pair {
         theirs,
         cases: 0,
         large: 0,
+        accepted: [0; 2],
         random: Random::new(seed),
     };
     for (index, (kind, body)) in entries(&tape.bytes).into_iter().enumerate() {
@@ -180,11 +194,16 @@ fn play_tapes(seeds: std::ops::Range<u64>) {
     let pairs: Vec<Pair> = seeds.map(play_tape).collect();
     let cases: usize = pairs.iter().map(|pair| pair.cases).sum();
     let large: usize = pairs.iter().map(|pair| pair.large).sum();
-    println!("{cases} cases judged by both, {large} of them in a large table");
+    let accepted = [0, 1].map(|edition| pairs.iter().map(|pair| pair.accepted[edition]).sum());
+    println!("{cases} cases judged by both, {large} of them in a large table, {accepted:?} accepted of each edition");
     assert!(cases > 1_000, "only {cases} cases were judged");
     assert!(
         large > 50,
         "only {large} cases in a large table were judged"
+    );
+    assert!(
+        accepted.iter().all(|count: &usize| *count > 100),
+        "only {accepted:?} cases of each edition were accepted"
     );
 }
 
@@ -211,7 +230,8 @@ fn noise_is_refused_alike() {
         theirs.anchors = random.u64() >> random.below(64);
         theirs.pool = random.u64() >> random.below(64);
         let mut ours = same_ledger(&theirs);
-        let mut file = vec![0; *random.pick(&[0, 4_209, 4_210, 4_211])];
+        let lengths = [0, 4_105, 4_106, 4_107, 4_209, 4_210, 4_211];
+        let mut file = vec![0; *random.pick(&lengths)];
         random.fill(&mut file);
         assert_answer(ours.judge(&file), judge(&mut theirs, &file), "noise");
         assert_answer(ours.close(), theirs.close_block(), "noise");

@@ -1,7 +1,7 @@
 //! A lent buffer of the wrong length is refused with 51 before anything else
 //! is looked at, and every byte stays.
 
-use snaldrek::{calls, Ledger, LEDGER_BYTES};
+use snaldrek::{calls, Edition, Ledger, Refusal, LEDGER_BYTES, MAX_CASE_BYTES};
 
 const WRONG_LEDGERS: [usize; 6] = [0, 1, 987, 989, 1_976, 4_096];
 const WRONG_32: [usize; 5] = [0, 1, 31, 33, 64];
@@ -24,7 +24,7 @@ fn assert_untouched(buffers: &[&[u8]]) {
 #[test]
 fn a_ledger_of_another_length_is_refused_by_every_call() {
     for length in WRONG_LEDGERS {
-        for (rows, file_length) in [(0, 0), (8, 4_210), (8, 4_209)] {
+        for (rows, file_length) in [(0, 0), (8, 4_210), (8, 4_209), (8, 4_106), (8, 4_105)] {
             let (mut ledger, file) = (filled(length), filled(file_length));
             let (mut table, mut roll) = (filled(32 * rows), filled(32 * rows));
             let (mut root, mut report) = (filled(32), filled(32));
@@ -132,6 +132,32 @@ fn lengths_that_may_be_anything_are_never_refused_as_wrong() {
             }
         );
     }
+}
+
+/// Of these bytes every file that is a case has two public values, and no other
+/// is looked at.
+#[test]
+fn a_case_has_one_of_two_lengths() {
+    let mut ledger = Ledger::open(2, 1).expect("a row for an anchor");
+    for length in (0..=4_500).chain([8_212, 8_420, 65_536, 65_536 + 4_106, 65_536 + 4_210]) {
+        let (file, before) = (filled(length), ledger.clone());
+        let (edition, refusal) = match length {
+            4_106 => (Some(Edition::Second), Refusal::BothPublicValues),
+            4_210 => (Some(Edition::First), Refusal::BothPublicValues),
+            _ => (None, Refusal::WrongLength),
+        };
+        assert_eq!(ledger.judge(&file), Err(refusal), "{length} bytes");
+        assert_eq!(Edition::of_case(&file), edition, "{length} bytes");
+        assert!(ledger == before, "a refusal changes no byte");
+    }
+}
+
+#[test]
+fn an_edition_says_how_long_its_files_and_proofs_are() {
+    let lengths = |edition: Edition| (edition.case_bytes(), edition.proof_bytes());
+    assert_eq!(lengths(Edition::First), (4_210, 296));
+    assert_eq!(lengths(Edition::Second), (4_106, 192));
+    assert_eq!(MAX_CASE_BYTES, 4_210);
 }
 
 #[test]

@@ -3,8 +3,15 @@
 
 use second::answer::Answer as Plain;
 use second::ledger::Ledger as PlainLedger;
+use second::random::Random;
 use second::tape::keep_body;
-use snaldrek::{Answer, Ledger, Refusal, LEDGER_BYTES};
+use snaldrek::{Answer, Edition, Ledger, Refusal, LEDGER_BYTES};
+
+/// Where a case has its ephemeral key and its proof, and how long its two
+/// ciphertexts are, which stand right behind the proof.
+const EPHEMERAL_KEY: usize = 176;
+const PROOF: usize = 304;
+const CIPHERTEXTS: usize = 2 * 601;
 
 /// The code of an answer of the second judge: number, place and row.
 pub fn code(answer: Plain) -> u32 {
@@ -53,6 +60,25 @@ pub fn assert_alike(ours: &Ledger, theirs: &PlainLedger, when: &str) {
     assert_eq!(ours.anchors(), theirs.anchors, "{when}");
     assert_eq!(ours.pool(), theirs.pool, "{when}");
     assert_eq!(ours.leaves(), theirs.tree.count(), "{when}");
+}
+
+/// The same case in this edition, with other bytes for all that is carried.
+pub fn in_edition(random: &mut Random, file: &[u8], edition: Edition) -> Vec<u8> {
+    let was = Edition::of_case(file).expect("a file of either edition");
+    let behind = &file[PROOF + was.proof_bytes() + CIPHERTEXTS..];
+    let mut carried = vec![0; edition.proof_bytes() + CIPHERTEXTS];
+    random.fill(&mut carried);
+    let mut file = [&file[..PROOF], &carried, behind].concat();
+    random.fill(&mut file[EPHEMERAL_KEY..EPHEMERAL_KEY + 32]);
+    file
+}
+
+/// The edition that this one is not.
+pub fn other(edition: Edition) -> Edition {
+    match edition {
+        Edition::First => Edition::Second,
+        Edition::Second => Edition::First,
+    }
 }
 
 /// The entries of a tape that was made sound: kind and body.

@@ -1,13 +1,14 @@
-// Prepares the cases of the bench, as a tape: a ledger of FILL nullifiers and, on it, COUNT cases. Half of
+// Prepares the cases of the bench, as a tape: a ledger of FILL nullifiers and, on it, COUNT case files. Half of
 // them are accepted, each with two old notes of value. The others are refused, as many of each kind of answer
 // as of any other, mixed with the accepted ones. The refusals of the ledger itself, 2 and 3, come last, each
-// on a ledger of its own. The same numbers give the same tape.
+// on a ledger of its own. Each case comes twice, once in each edition, so that the editions can be compared. Of
+// each kind there are two at least, even if then fewer than half are accepted. The same numbers give the same tape.
 //   cases FILL COUNT SEED >TAPE
 use std::io::Write;
 
 use second::answer::Answer;
 use second::bytes::Bytes32;
-use second::case::{Amount, Case};
+use second::case::{Amount, Case, Edition};
 use second::judge::{first_refusal, RULES};
 use second::ledger::{Ledger, MAX_ANCHORS, MAX_POOL, MAX_SPENT, ROW_BYTES};
 use second::maker::bends::{Bench, Bend, BENDS};
@@ -15,6 +16,7 @@ use second::maker::purse::Purse;
 use second::random::Random;
 use second::tape::{entry, plant_body};
 use second::tree::{Record, Tree};
+use second::wallet::proof_of;
 
 const ROLL: usize = 16;
 // In the pool: room for what a case puts in, and enough for what it takes out.
@@ -73,6 +75,30 @@ impl Scene {
             }
         }
     }
+
+    // So many files with an answer of this number and place: each case in the first edition, and then in the second.
+    fn files_for(&mut self, answer: Answer, count: usize) -> Vec<Vec<u8>> {
+        let mut files = Vec::new();
+        while files.len() < count {
+            let case = self.case_for(answer);
+            for edition in Edition::ALL {
+                let proof = proof_of(&mut self.random, edition);
+                files.push(case.clone().with_proof(proof).to_bytes());
+            }
+        }
+        files.truncate(count);
+        files
+    }
+
+    // So many files that are a byte longer or shorter than those of an edition.
+    fn files_of_wrong_length(&mut self, count: usize) -> Vec<Vec<u8>> {
+        let mut files = self.files_for(Answer::PASSED, count);
+        for (index, file) in files.iter_mut().enumerate() {
+            let is_longer = index / 2 % 2 == 1;
+            file.resize(file.len() - 1 + 2 * usize::from(is_longer), 0);
+        }
+        files
+    }
 }
 
 // A sound ledger of these rows, with all the room there may be.
@@ -107,19 +133,11 @@ fn main() {
     let (fill, count) = (fill as usize, count as usize);
     let mut scene = Scene::new(fill, seed);
     let kinds = kinds(fill);
-    let share = count / 2 / (kinds.len() + 3);
-    let mut files: Vec<Vec<u8>> = Vec::new();
-    for kind in &kinds {
-        files.extend((0..share).map(|_| scene.case_for(*kind).to_bytes()));
-    }
-    for index in 0..share {
-        let mut file = scene.good().to_bytes();
-        file.resize(4_209 + 2 * (index % 2), 0);
-        files.push(file);
-    }
-    while files.len() < count - 2 * share {
-        files.push(scene.case_for(Answer::PASSED).to_bytes());
-    }
+    let share = 2 * (count / 4 / (kinds.len() + 3)).max(1);
+    let mut files: Vec<Vec<u8>> = kinds.iter().flat_map(|kind| scene.files_for(*kind, share)).collect();
+    files.extend(scene.files_of_wrong_length(share));
+    let accepted = count.saturating_sub(files.len() + 2 * share);
+    files.extend(scene.files_for(Answer::PASSED, accepted));
     scene.random.shuffle(&mut files);
 
     let mut out = std::io::BufWriter::new(std::io::stdout().lock());
@@ -131,6 +149,6 @@ fn main() {
     full.table.truncate(fill * ROW_BYTES);
     for ledger in [damaged, full] {
         put(&mut out, b'P', &plant_body(&ledger));
-        (0..share).for_each(|_| put(&mut out, b'C', &scene.good().to_bytes()));
+        scene.files_for(Answer::PASSED, share).iter().for_each(|file| put(&mut out, b'C', file));
     }
 }

@@ -2,7 +2,7 @@
 // the lean one in plain.rs. All are put to the same cases on the same ledger, one call a case; after an
 // accepted case the ledger is put back, outside what is measured.
 //   judge check TAPE         all three give the same answers, rows included, and leave the same ledgers; prints
-//                            number and place of each answer
+//                            number and place of each answer, and the length of the file
 //   judge mark SIDE TAPE     each case once; a mark before and after each call, for count.c
 //   judge accepted SIDE TAPE the same for the cases that are accepted; prints how many these are, and where in
 //                            memory `by_proved` stands
@@ -172,7 +172,7 @@ fn check(scenes: &[(Ledgers, Vec<&[u8]>)]) {
             let answers = [by_proved, by_plain, by_second].map(|judge| judge(&mut ledgers, file));
             assert!(answers[0] == answers[1] && answers[0] == answers[2], "answers {answers:x?}");
             assert!(ledgers.are_alike(), "the ledgers differ after {:x}", answers[0]);
-            writeln!(out, "{} {}", answers[0] & 0xff, answers[0] >> 8 & 0xff).unwrap();
+            writeln!(out, "{} {} {}", answers[0] & 0xff, answers[0] >> 8 & 0xff, file.len()).unwrap();
             if answers[0] == 0 {
                 ledgers.put_back(planted);
             }

@@ -2,6 +2,8 @@
 // The ledger's table is a sorted run of rows in memory that the caller lends, searched by halves; nothing
 // is allocated, nothing is hashed before the cheap tests have passed, and hSig is hashed once. The checks
 // and their order are those of the proved judge.
+// Of a case two parts are read, what stands before the proof and what stands behind the ciphertexts: both are the same
+// in either edition, and the second is the file's end, so that of the edition nothing but the file's length is asked.
 // The hashes are the quickest of the plain forms in hashes.rs. How the table is looked through for damage is chosen
 // by --cfg rows="WAY": plain, as the language compares rows, or words, which is tuned. Nothing else is.
 
@@ -135,9 +137,9 @@ fn g(v: &mut [u64; 16], a: usize, b: usize, c: usize, d: usize, x: u64, y: u64) 
 }
 
 // One block of 128 bytes, the first and the last.
-fn h_sig(case: &[u8; CASE_BYTES]) -> Row {
+fn h_sig(case: Case) -> Row {
     let mut m = [0u64; 16];
-    let parts: [&Row; 4] = [field(case, 208), field(case, 48), field(case, 80), field(case, 1_802)];
+    let parts: [&Row; 4] = [case.front(208), case.front(48), case.front(80), case.back(KEY)];
     for (x, b) in m.iter_mut().zip(parts.iter().flat_map(|part| part.chunks_exact(8))) {
         *x = u64::from_le_bytes(b.try_into().unwrap());
     }
@@ -256,21 +258,51 @@ impl Ledger {
 
 // ---- The case
 
-pub const CASE_BYTES: usize = 4_210;
-const OLD: [usize; 2] = [1_834, 2_902];
-const NEW: [usize; 2] = [3_970, 4_074];
-const PHI: usize = 4_178;
+const FIRST_EDITION: usize = 4_210;
+const SECOND_EDITION: usize = 4_106;
 
-fn field<const N: usize>(case: &[u8; CASE_BYTES], at: usize) -> &[u8; N] {
-    case[at..at + N].try_into().unwrap()
+// What stands before the proof, and what stands behind the ciphertexts: at the file's end in either edition.
+#[derive(Clone, Copy)]
+struct Case<'a> {
+    front: &'a [u8; 304],
+    back: &'a [u8; 2_408],
 }
 
-fn number(case: &[u8; CASE_BYTES], at: usize) -> u64 {
-    u64::from_le_bytes(*field(case, at))
-}
+// From the start of the back.
+const KEY: usize = 0;
+const OLD: [usize; 2] = [32, 1_100];
+const NEW: [usize; 2] = [2_168, 2_272];
+const PHI: usize = 2_376;
 
-fn position(case: &[u8; CASE_BYTES], old: usize) -> u32 {
-    u32::from_le_bytes(*field(case, old + 136))
+impl<'a> Case<'a> {
+    fn read(file: &'a [u8]) -> Option<Case<'a>> {
+        match file.len() {
+            FIRST_EDITION | SECOND_EDITION => Some(Case { front: file.first_chunk()?, back: file.last_chunk()? }),
+            _ => None,
+        }
+    }
+
+    // A field before the proof, by its place in the file.
+    fn front<const N: usize>(self, at: usize) -> &'a [u8; N] {
+        self.front[at..at + N].try_into().unwrap()
+    }
+
+    // A field behind the ciphertexts, by its place in the back.
+    fn back<const N: usize>(self, at: usize) -> &'a [u8; N] {
+        self.back[at..at + N].try_into().unwrap()
+    }
+
+    fn public_value(self, at: usize) -> u64 {
+        u64::from_le_bytes(*self.front(at))
+    }
+
+    fn value(self, at: usize) -> u64 {
+        u64::from_le_bytes(*self.back(at))
+    }
+
+    fn position(self, old: usize) -> u32 {
+        u32::from_le_bytes(*self.back(old + 136))
+    }
 }
 
 const fn refused(number: u32, place: usize) -> Result<(), u32> {
@@ -291,9 +323,9 @@ fn none_of(wrong: impl Fn(usize) -> bool, number: u32) -> Result<(), u32> {
 }
 
 // 3 to 8
-fn ask(case: &[u8; CASE_BYTES], ledger: &Ledger, table: &[u8], roll: &[u8]) -> Result<(), u32> {
-    let public = [number(case, 0), number(case, 8)];
-    let nullifiers: [&Row; 2] = [field(case, 48), field(case, 80)];
+fn ask(case: Case, ledger: &Ledger, table: &[u8], roll: &[u8]) -> Result<(), u32> {
+    let public = [case.public_value(0), case.public_value(8)];
+    let nullifiers: [&Row; 2] = [case.front(48), case.front(80)];
     if room(table, MAX_SPENT) as u64 - ledger.spent < 2 {
         return refused(3, 0);
     }
@@ -301,7 +333,7 @@ fn ask(case: &[u8; CASE_BYTES], ledger: &Ledger, table: &[u8], roll: &[u8]) -> R
         return refused(4, 0);
     }
     none_of(|i| public[i] > MAX_MONEY, 5)?;
-    if !rows(roll, ledger.anchors).contains(field(case, 16)) {
+    if !rows(roll, ledger.anchors).contains(case.front(16)) {
         return refused(6, 0);
     }
     if nullifiers[0] == nullifiers[1] {
@@ -315,53 +347,55 @@ fn ask(case: &[u8; CASE_BYTES], ledger: &Ledger, table: &[u8], roll: &[u8]) -> R
     Ok(())
 }
 
-fn strays(case: &[u8; CASE_BYTES], old: usize) -> bool {
-    if number(case, old + 64) == 0 {
+fn strays(case: Case, old: usize) -> bool {
+    if case.value(old + 64) == 0 {
         return false;
     }
-    let mut node = commitment(field(case, old + 32), field(case, old + 64), field(case, old + 72), field(case, old + 104));
+    let mut node = commitment(case.back(old + 32), case.back(old + 64), case.back(old + 72), case.back(old + 104));
     for level in 0..29 {
-        let sibling = field(case, old + 140 + 32 * level);
-        node = if position(case, old) >> level & 1 == 1 { parent(sibling, &node) } else { parent(&node, sibling) };
+        let sibling = case.back(old + 140 + 32 * level);
+        node = if case.position(old) >> level & 1 == 1 { parent(sibling, &node) } else { parent(&node, sibling) };
     }
-    node != *field(case, 16)
+    node != *case.front(16)
 }
 
 // 9 to 16
-fn check_witness(case: &[u8; CASE_BYTES]) -> Result<(), u32> {
-    let sum = |at: [usize; 3]| at.iter().map(|at| u128::from(number(case, *at))).sum::<u128>();
-    let key = |i: usize| field(case, OLD[i]);
-    let phi = field(case, PHI);
-    none_of(|i| key(i)[0] & 0xf0 != 0 || position(case, OLD[i]) >= 1 << 29, 9)?;
+fn check_witness(case: Case) -> Result<(), u32> {
+    let sum = |public: usize, values: [usize; 2]| {
+        u128::from(case.public_value(public)) + values.iter().map(|at| u128::from(case.value(*at))).sum::<u128>()
+    };
+    let key = |i: usize| case.back(OLD[i]);
+    let phi = case.back(PHI);
+    none_of(|i| key(i)[0] & 0xf0 != 0 || case.position(OLD[i]) >= 1 << 29, 9)?;
     if phi[0] & 0xf0 != 0 {
         return refused(9, 3);
     }
     none_of(|i| strays(case, OLD[i]), 10)?;
-    let paid = sum([0, OLD[0] + 64, OLD[1] + 64]);
-    if paid != sum([8, NEW[0] + 32, NEW[1] + 32]) || paid > u128::from(u64::MAX) {
+    let paid = sum(0, OLD.map(|at| at + 64));
+    if paid != sum(8, NEW.map(|at| at + 32)) || paid > u128::from(u64::MAX) {
         return refused(11, 0);
     }
-    none_of(|i| *field(case, 48 + 32 * i) != tagged(0b1110, key(i), field(case, OLD[i] + 72)), 12)?;
-    none_of(|i| *field(case, OLD[i] + 32) != tagged(0b1100, key(i), &[0; 32]), 13)?;
+    none_of(|i| *case.front(48 + 32 * i) != tagged(0b1110, key(i), case.back(OLD[i] + 72)), 12)?;
+    none_of(|i| *case.back(OLD[i] + 32) != tagged(0b1100, key(i), &[0; 32]), 13)?;
     let h = h_sig(case);
-    none_of(|i| *field(case, 240 + 32 * i) != tagged([0b0000, 0b0100][i], key(i), &h), 14)?;
-    none_of(|i| *field(case, NEW[i] + 40) != tagged([0b0010, 0b0110][i], phi, &h), 15)?;
-    none_of(|i| *field(case, 112 + 32 * i) != new_commitment(case, NEW[i]), 16)
+    none_of(|i| *case.front(240 + 32 * i) != tagged([0b0000, 0b0100][i], key(i), &h), 14)?;
+    none_of(|i| *case.back(NEW[i] + 40) != tagged([0b0010, 0b0110][i], phi, &h), 15)?;
+    none_of(|i| *case.front(112 + 32 * i) != new_commitment(case, NEW[i]), 16)
 }
 
-fn new_commitment(case: &[u8; CASE_BYTES], new: usize) -> Row {
-    commitment(field(case, new), field(case, new + 32), field(case, new + 40), field(case, new + 72))
+fn new_commitment(case: Case, new: usize) -> Row {
+    commitment(case.back(new), case.back(new + 32), case.back(new + 40), case.back(new + 72))
 }
 
 // What acceptance leaves in the pool, if that is in its bounds. Neither the pool nor a public value is above all
 // money, so that nothing wraps.
-fn pool_after(case: &[u8; CASE_BYTES], ledger: &Ledger) -> Option<u64> {
-    let left = (ledger.pool + number(case, 0)).checked_sub(number(case, 8));
+fn pool_after(case: Case, ledger: &Ledger) -> Option<u64> {
+    let left = (ledger.pool + case.public_value(0)).checked_sub(case.public_value(8));
     left.filter(|pool| *pool <= MAX_MONEY)
 }
 
 fn judged(file: &[u8], ledger: &mut Ledger, table: &mut [u8], roll: &[u8]) -> Result<(), u32> {
-    let Ok(case) = <&[u8; CASE_BYTES]>::try_from(file) else {
+    let Some(case) = Case::read(file) else {
         return refused(1, 0);
     };
     if ledger.is_damaged(table, roll) {
@@ -372,10 +406,10 @@ fn judged(file: &[u8], ledger: &mut Ledger, table: &mut [u8], roll: &[u8]) -> Re
     let Some(pool) = pool_after(case, ledger) else {
         return refused(17, 0);
     };
-    ledger.enter(table, field(case, 48));
-    ledger.enter(table, field(case, 80));
-    ledger.append(field(case, 112));
-    ledger.append(field(case, 144));
+    ledger.enter(table, case.front(48));
+    ledger.enter(table, case.front(80));
+    ledger.append(case.front(112));
+    ledger.append(case.front(144));
     ledger.pool = pool;
     Ok(())
 }

@@ -2,7 +2,7 @@
 """Prints the tables of bench/judge.sh, and writes figures.tsv for bench/plot.py.
 
 report.py FOLDER UNIT FILL.. : FOLDER has, for each fill of the table, answers.FILL (a line for each case:
-number and place) and costs.FILL (lines of round, side, and the cost of each case). The tables are of the
+number, place and the file's length) and costs.FILL (lines of round, side, and the cost of each case). The tables are of the
 fills that are named; figures.tsv has all that the folder has.
 """
 import statistics
@@ -14,6 +14,7 @@ SIDES = ("proved", "plain", "words", "second")
 OTHERS = {"plain": "plain", "words": "tuned", "second": "second"}  # as the tables call them
 COMPRESSION = 3553  # instructions of one proved compression, from the bench of the hashes
 TIMES, ABOVE = 1.5, 150  # each kind of answer: at most so many times plain Rust's instructions, or so many above them
+EDITIONS = {4210: "first", 4106: "second"}  # by the length of the file
 COMPRESSIONS = 74  # of a case with two old notes of value: 58 for paths, 8 for commitments, 8 more
 
 
@@ -24,8 +25,12 @@ class Fill:
         self.fill = fill
         answers = (folder / f"answers.{fill}").read_text().splitlines()
         self.kinds = defaultdict(list)
+        self.editions = {length: set() for length in EDITIONS}
         for index, line in enumerate(answers):
-            self.kinds[tuple(map(int, line.split()))].append(index)
+            number, place, length = map(int, line.split())
+            self.kinds[number, place].append(index)
+            if length in EDITIONS:
+                self.editions[length].add(index)
         self.all = list(range(len(answers)))
         rounds = defaultdict(list)
         for line in (folder / f"costs.{fill}").read_text().splitlines():
@@ -78,6 +83,19 @@ def overall(fills, unit):
     print("\nAll fills together: " + ", ".join(f"proved / {name} {total['proved'] / total[other]:.3f}" for other, name in OTHERS.items()))
 
 
+def by_edition(fills, unit):
+    sides = ("proved", "plain", "tuned")
+    print(f"\nBy edition, {unit} of a case; the cases are the same in both:\n")
+    row("rows", "edition", "accepted", *sides, "refused", *sides)
+    row(*["---"] * 10)
+    for fill in fills:
+        for length, name in EDITIONS.items():
+            accepted = sorted(fill.editions[length] & set(fill.kinds[0, 0]))
+            refused = sorted(fill.editions[length] - set(accepted))
+            row(f"{fill.fill:,}", name, *(cell for cases in (accepted, refused)
+                                          for cell in (len(cases), *(f"{fill.mean(side, cases):,.0f}" for side in SIDES[:3]))))
+
+
 def by_kind(fills, unit):
     print(f"\nBy kind of answer, {unit} of a case: proved, plain, and their ratio with its least and most:\n")
     row("answer", *(f"{fill.fill:,} rows" for fill in fills))
@@ -116,6 +134,7 @@ def main():
     folder, unit = Path(sys.argv[1]), sys.argv[2]
     fills = [Fill(folder, int(word)) for word in sys.argv[3:]]
     overall(fills, unit)
+    by_edition(fills, unit)
     by_kind(fills, unit)
     if unit == "instructions":
         kept_to(fills)

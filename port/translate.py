@@ -11,6 +11,7 @@ from dataclasses import dataclass
 
 FUNCTION = re.compile(r'(\s*)(pub )?(?:extern "C" )?fn (\w+)')
 CONSTANT = re.compile(r"(?:pub )?const (\w+)\b")
+ADDED_TYPE = re.compile(r"struct (\w+)\(.*\); impl \1 \{ fn ")
 COUNTED = {("judge", "compare")}  # functions whose calls are counted, each by its crate
 NUMBER = re.compile(r"^(?:pub )?const (\w+): \w+ = (\d+);", re.M)
 
@@ -19,7 +20,7 @@ NUMBER = re.compile(r"^(?:pub )?const (\w+): \w+ = (\d+);", re.M)
 class Item:
     """A function, a constant, or text between them."""
 
-    name: str  # of a function, with its type's before it; of a constant; else empty
+    name: str  # of a function, with its type's before it; of a constant, or of a type that is added; else empty
     head: str  # of a function, up to its opening brace; of others all
     body: str = ""
     public: bool = False
@@ -54,9 +55,10 @@ def numbers_of(texts):
 
 def without_proofs(text):
     """The lines of a file but for ghost lines, contracts and comments; a contract leaves `requires` or nothing."""
-    # A wrong version may have a whole function on one line.
+    # A wrong version may have a whole function on one line, or a type with one function of its own.
     text = re.sub(r"(ghost use [^;]*;) +(?=\S)", r"\1\n", text)
-    text = re.sub(r"^(fn .*) (ensures \{.*⌝ \}) \{ (.*) \}$", r"\1\n\2\n{\n\3\n}", text, flags=re.M)
+    text = re.sub(r"^(fn .*?) ((?:requires|ensures) \{.*⌝ \}) \{ (.*) \}$", r"\1\n\2\n{\n\3\n}", text, flags=re.M)
+    text = re.sub(r"^(struct \w+\(.*\); impl .*?) (?:requires|ensures) \{.*⌝ \} (\{ .* \} \})$", r"\1 \2", text, flags=re.M)
     lines, depth = [], 0
     for line in text.split("\n"):
         start = re.match(r"\s*(requires|ensures) \{", line)
@@ -91,25 +93,26 @@ def items_of(text):
         if constant:
             while not lines[end].endswith(";"):
                 end += 1
-        items.append(Item(constant[1] if constant else "", "\n".join(lines[at : end + 1])))
+        named = constant or ADDED_TYPE.match(line)
+        items.append(Item(named[1] if named else "", "\n".join(lines[at : end + 1])))
         at = end + 1
     return items
 
 
 def difference(items, changed):
-    """What a changed file changes: new bodies by function, and functions to be added. Nothing else may change."""
+    """What a changed file changes: new bodies by function, and functions and types to be added. Nothing else may change."""
     old = {i.name: i for i in items if i.name}
+    constants = [i for i in changed if i.name in old and not i.is_function and i.head != old[i.name].head]
     bodies, added = {}, ""
     for item in changed:
         was = old.get(item.name)
-        if was and was.head == item.head and was.body != item.body:
-            bodies[item.name] = item.body
-        elif was and not item.is_function and was.head != item.head:
-            for user in items:
-                if user.is_function and re.search(rf"\b{item.name}\b", user.body):
-                    bodies[user.name] = item.head + "\n" + user.body
-        elif not was and item.is_function:
-            added += item.head + "\n" + item.body + "\n}\n"
+        # Whoever uses a changed constant has it in its own body.
+        used = [c.head for c in constants if re.search(rf"\b{c.name}\b", item.body)]
+        body = "\n".join(used + [item.body])
+        if was and was.head == item.head and was.body != body:
+            bodies[item.name] = body
+        elif not was and item.name:
+            added += item.head + "\n" + (body + "\n}\n" if item.is_function else "")
     if [i.head for i in changed if not i.name] != [i.head for i in items if not i.name]:
         raise ValueError("it changes more than functions and constants")
     return bodies, added

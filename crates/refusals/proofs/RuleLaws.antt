@@ -53,6 +53,15 @@ unfolding None
 none-above [] b h = refl
 none-above (r ∷ a) b h = first-next r (a ++ b) (h .0) ∙ none-above a b (h .1)
 
+-- and so they are behind others
+pub none-behind : (a b : List Rule) → None b → first (a ++ b) ≡ first a
+unfolding first
+none-behind [] b h = none-first b h
+none-behind (r ∷ a) b h =
+    by-test (r .applies)
+    (λ e. first-here r (a ++ b) e ∙ sym (first-here r a e))
+    (λ e. first-next r (a ++ b) e ∙ none-behind a b h ∙ sym (first-next r a e))
+
 -- a table of two parts: the first part's refusal, or else the second part's answer
 pub first-refused : (a b : List Rule) → isAccepted (first a) ≡ false → first (a ++ b) ≡ first a
 unfolding first

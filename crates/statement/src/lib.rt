@@ -62,7 +62,7 @@ pub fn public_values(case: &[u8]) -> Answer
 }
 
 // 7. The two are compared by words of eight bytes, of which the first nearly always decides.
-fn distinct(case: &[u8]) -> Answer
+pub fn distinct(case: &[u8]) -> Answer
     ensures { λ r. ⌜ r ≡ first (no7 (now (case .entry))) ⌝ }
 {
     let one = casefile::nullifier(case, Which::First);
@@ -187,7 +187,7 @@ fn unbalanced(case: &[u8]) -> bool
     paid.high > 4294967295
 }
 
-fn balance(case: &[u8]) -> Answer
+pub fn balance(case: &[u8]) -> Answer
     ensures { λ r. ⌜ r ≡ first (no11 (now (case .entry))) ⌝ }
 {
     if unbalanced(case) {
@@ -219,7 +219,7 @@ fn address_wrong(case: &[u8], i: Which) -> bool
 }
 
 // 14 and 15 share hSig, which is hashed once.
-fn h_sig(case: &[u8]) -> [u8; 32]
+pub fn h_sig(case: &[u8]) -> [u8; 32]
     ensures { λ r. ⌜ r ≡ hSigOf (now (case .entry)) ⌝ }
 {
     let seed = casefile::seed(case);
@@ -314,7 +314,7 @@ fn pair(case: &[u8], claim: Claim, h: &[u8; 32]) -> Answer
 }
 
 // 10, which is over no hSig.
-fn paths(case: &[u8]) -> Answer
+pub fn paths(case: &[u8]) -> Answer
     ensures { λ r. ⌜ r ≡ first (no10 (now (case .entry))) ⌝ }
 {
     let none = [0u8; 32];

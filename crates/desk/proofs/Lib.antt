@@ -1,0 +1,4 @@
+pub mod Answers
+pub mod OneFile
+pub mod ReadBack
+pub mod WrittenLaws

@@ -31,7 +31,7 @@ use Rattle.judge.proofs.Outcomes.{refused-ledger, refused-table}
 use Rattle.demands.specs.Refusals.{Rises, Damaged, caseSentences, allPlaces, closeSentences, openSentences}
 
 -- TESTS ON BYTES AND ROWS, and what they tell
-same-bytes : {s t : List ℕ} → Tells (same s t) (s ≡ t)
+pub same-bytes : {s t : List ℕ} → Tells (same s t) (s ≡ t)
 same-bytes {s} {t} = (same-eq s t, λ e. rw e (same-refl t))
 
 a-member : {x : List ℕ} {rows : List (List ℕ)} → Tells (among x rows) (List·Memᴰ x rows)

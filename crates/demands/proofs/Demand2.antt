@@ -1,12 +1,14 @@
 -- THE SECOND DEMAND, on any ledger in memory: a case is accepted exactly when it is Valid.
 -- Assumes nothing.
-use Prim.Native.Nat.{ℕ, _+_}
+use Prim.Native.Nat.{ℕ, _+_, _≤_}
 use mathlib.Core.Path.{_≡_, refl, sym, ap, _∙_}
 use mathlib.Core.Bool.{true, false, not, false≢true}
 use mathlib.Core.List.{List, List·Memᴰ}
 use native.Mathlib.Omega.{arith}
 use borrow.Author.Tests.{ltb-false, le-ltb, not-false}
 use lib.ListN.{length}
+use Rattle.units.specs.Limits.{maxMoney}
+use Rattle.units.specs.Pairs.{ForBoth}
 use Rattle.refusals.specs.declared.Answer.{Answer}
 use Rattle.refusals.specs.Rules.{Rule, accepted, first, None, rulesIn, numbered, lower}
 use Rattle.refusals.proofs.RuleLaws.{by-test, first-none, none-first}
@@ -17,7 +19,7 @@ use Rattle.statement.specs.CaseRefusals.{oldCommitmentOf, pathEndOf, hSigOf, ca
 use Rattle.statement.proofs.Clauses.{Clauses, accepted-clauses, clauses-accepted}
 use Rattle.ledger.specs.declared.Ledger.{Ledger}
 use Rattle.ledger.specs.Rows.{among}
-use Rattle.ledger.specs.Ledgers.{mostNullifiers, roomIn, spentRows, anchorRows, no2, no3, no6, no8, no17, ledgerRefusals}
+use Rattle.ledger.specs.Ledgers.{mostNullifiers, roomIn, spentRows, anchorRows, damaged, no2, no3, no6, no8, no17, ledgerRefusals}
 use Rattle.ledger.proofs.Soundness.{among-member, member-among}
 use Rattle.ledger.proofs.Pools.{inside, not-below, not-above}
 use Rattle.judge.specs.Judging.{answerOf}
@@ -39,13 +41,20 @@ module _ (c t r : List ℕ) (l : Ledger) where
   no-member : (x : List ℕ) (rows : List (List ℕ)) → (List·Memᴰ x rows → ⊥) → among x rows ≡ false
   no-member x rows h = by-test (among x rows) (λ e. absurd (h (among-member x rows e))) (λ e. e)
 
-  -- a valid case passes the ledger's own table
-  admits : Valid c t r l → first ledgers ≡ accepted
+  -- a case passes the ledger's own table where each of its rules has nothing against it
+  pub admits : damaged t r l ≡ false → l .nullifiers + 2 ≤ roomIn mostNullifiers (length t) → List·Memᴰ (anchorOf c) (anchorRows r l)
+      → ForBoth (λ i. List·Memᴰ (nullifierOf i c) (spentRows t l) → ⊥)
+      → vpubNewOf c ≤ l .pool .0 + vpubOldOf c
+      → l .pool .0 + vpubOldOf c ≤ vpubNewOf c + maxMoney
+      → first ledgers ≡ accepted
   unfolding None ledgerRefusals rulesIn no2 no3 no6 no8 no17
-  admits v =
-      let u = v .rules .unspent in
+  admits undamaged room anchor unspent low high =
       none-first ledgers
-      (v .undamaged, (le-ltb (roomIn mostNullifiers (length t)) (l .nullifiers + 2) (v .room), (ap not (member-among (anchorOf c) (anchorRows r l) (v .rules .anchor)), (no-member (nullifierOf 1 c) (spentRows t l) (u .0), (no-member (nullifierOf 2 c) (spentRows t l) (u .1), (inside (l .pool .0) (vpubOldOf c) (vpubNewOf c) (omega (arith, v .rules .pool-not-negative)) (v .pool-bounded), tt))))))
+      (undamaged, (le-ltb (roomIn mostNullifiers (length t)) (l .nullifiers + 2) room, (ap not (member-among (anchorOf c) (anchorRows r l) anchor), (no-member (nullifierOf 1 c) (spentRows t l) (unspent .0), (no-member (nullifierOf 2 c) (spentRows t l) (unspent .1), (inside (l .pool .0) (vpubOldOf c) (vpubNewOf c) low high, tt))))))
+
+  admits-valid : Valid c t r l → first ledgers ≡ accepted
+  admits-valid v =
+      admits (v .undamaged) (v .room) (v .rules .anchor) (v .rules .unspent) (omega (arith, v .rules .pool-not-negative)) (v .pool-bounded)
 
   -- the clauses of the case alone are the encoding, the public values, that the nullifiers differ, and the statement
   clauses-of : Valid c t r l → Clauses c
@@ -110,4 +119,4 @@ module _ (c t r : List ℕ) (l : Ledger) where
 
   pub valid-accepted : Valid c t r l → answerOf c t r l ≡ accepted
   valid-accepted v =
-      answer-lower c t r l ∙ ap (λ (a : Answer). lower a (first ledgers)) (clauses-accepted c (clauses-of v)) ∙ ap (lower accepted) (admits v)
+      answer-lower c t r l ∙ ap (λ (a : Answer). lower a (first ledgers)) (clauses-accepted c (clauses-of v)) ∙ ap (lower accepted) (admits-valid v)

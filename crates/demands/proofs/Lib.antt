@@ -7,6 +7,7 @@ pub mod Demand1
 pub mod Demand1Bags
 pub mod Demand2
 pub mod Demand3
+pub mod Desk
 pub mod History
 pub mod Limits
 pub mod OneCase

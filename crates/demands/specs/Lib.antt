@@ -1,5 +1,6 @@
 pub mod BagRefusals
 pub mod Bags
+pub mod Desk
 pub mod Histories
 pub mod Pairs
 pub mod Pools

@@ -7,7 +7,7 @@
 //! accepted case, and it searches from the top.
 //!
 //! - The judge: [`judge`], over [`ledger`], [`case`], [`tree`], [`hashes`].
-//! - The wire's pull: [`seal`]. The bag: [`bag`].
+//! - The wire's pull: [`seal`]. The bag: [`bag`]. The desk that writes cases: [`desk`].
 //! - Tapes, which are runs of calls with printed answers: [`tape`].
 //! - What writes cases and tapes: [`wallet`], [`maker`], [`random`].
 
@@ -16,6 +16,7 @@ pub mod bag;
 pub mod blake2b;
 pub mod bytes;
 pub mod case;
+pub mod desk;
 pub mod hashes;
 pub mod judge;
 pub mod ledger;

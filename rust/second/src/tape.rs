@@ -8,6 +8,7 @@
 //! | `O` | table length (4), roll length (4) | opens a fresh ledger on zeroed buffers | `open N P` |
 //! | `F` | empty | opens a fresh ledger on the lent buffers as they stand | `open N P` |
 //! | `C` | a case, any bytes | judges it | `case N P`, and behind `case 8 P` the line `row K` |
+//! | `D` | a buffer's length (4), at most 4,352, and a draft, any bytes | has the desk write the case of the draft into a buffer of so many bytes 0xA5; where it does, judges the buffer as `C` does its body | `desk N P HASH`, the hash being the SHA-256 of the whole buffer after it; where the desk accepts, the lines of `C` behind |
 //! | `B` | empty | closes a block | `block N P` |
 //! | `S` | gain (8), offset (8), a seal (25) | judges the seal | `seal N P`, and the pull's bits on a pass |
 //! | `L` | empty | looks at the ledger | `ledger spent S leaves L anchors A pool P root HEX` |
@@ -25,8 +26,11 @@
 //! Anything else, a wrong length, or an end inside an entry prints
 //! `tape 50 0` and ends the run.
 
+use std::borrow::Cow;
+
 use crate::answer::Answer;
 use crate::bytes::{hex, Bytes32, Reader};
+use crate::desk::write_case;
 use crate::judge::judge;
 use crate::ledger::{Ledger, MAX_ANCHORS, MAX_SPENT, ROW_BYTES};
 use crate::seal::{judge_seal, Calibration, Seal};
@@ -53,6 +57,12 @@ pub const MAX_ROLL_BYTES: usize = (MAX_ANCHORS + ROWS_BEYOND) * ROW_BYTES + ROW_
 
 /// The longest name that a tape or a tray may have.
 pub const MAX_NAME_BYTES: usize = 100;
+
+/// The longest buffer that a tape may lend to the desk.
+pub const MAX_DESK_BYTES: usize = 4_352;
+
+/// What each byte of such a buffer is before the desk has it.
+pub const LENT_BYTE: u8 = 0xa5;
 
 /// What a broken tape answers.
 const BROKEN: Answer = Answer::new(50, 0);
@@ -113,6 +123,7 @@ impl Player {
             b'O' => self.open(body),
             b'F' => empty(body).map(|()| self.open_as_lent()),
             b'C' => Some(self.case(body)),
+            b'D' => self.draft(body),
             b'B' => empty(body).map(|()| self.close_block()),
             b'S' => play_seal(body),
             b'L' => empty(body).map(|()| vec![ledger_line(&self.ledger)]),
@@ -152,6 +163,16 @@ impl Player {
         judge(&mut self.ledger, body).case_lines()
     }
 
+    /// The desk's line, and where it accepts the lines of the case it wrote.
+    fn draft(&mut self, body: &[u8]) -> Option<Vec<String>> {
+        let (answer, buffer) = ask_desk(body)?;
+        let mut lines = vec![desk_line(answer, &buffer)];
+        if answer.is_pass() {
+            lines.extend(self.case(&buffer));
+        }
+        Some(lines)
+    }
+
     fn close_block(&mut self) -> Vec<String> {
         vec![format!("block {}", self.ledger.close_block())]
     }
@@ -165,6 +186,42 @@ impl Player {
 impl Default for Player {
     fn default() -> Player {
         Player::new()
+    }
+}
+
+/// What the desk answers to a `D` entry, and the buffer after it; nothing if the
+/// entry is broken.
+pub fn ask_desk(body: &[u8]) -> Option<(Answer, Vec<u8>)> {
+    let (length, draft) = body.split_first_chunk()?;
+    let length = u32::from_le_bytes(*length) as usize;
+    if length > MAX_DESK_BYTES {
+        return None;
+    }
+    let mut buffer = vec![LENT_BYTE; length];
+    let answer = write_case(draft, &mut buffer);
+    Some((answer, buffer))
+}
+
+/// The desk's line, by its answer and the buffer after it.
+pub fn desk_line(answer: Answer, buffer: &[u8]) -> String {
+    format!("desk {answer} {}", hex(&sha256(buffer)))
+}
+
+/// The body of a `D` entry that lends a buffer of this length.
+pub fn draft_body(length: usize, draft: &[u8]) -> Vec<u8> {
+    [&(length as u32).to_le_bytes(), draft].concat()
+}
+
+/// The file that an entry has judged: a case, or what the desk writes of a draft.
+/// Nothing if it has none, as where the desk refuses.
+pub fn judged_file(kind: u8, body: &[u8]) -> Option<Cow<'_, [u8]>> {
+    match kind {
+        b'C' => Some(Cow::Borrowed(body)),
+        b'D' => {
+            let (answer, buffer) = ask_desk(body)?;
+            answer.is_pass().then_some(Cow::Owned(buffer))
+        }
+        _ => None,
     }
 }
 

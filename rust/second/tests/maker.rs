@@ -1,46 +1,32 @@
 //! What the tape maker promises of its tapes.
 
+mod common;
+
 use std::cmp::Ordering;
 use std::ops::Range;
-use std::sync::OnceLock;
 
+use common::tapes::{entries, entries_of, lines_of, long_tapes, tapes, Tape, SEEDS};
 use second::answer::{Answer, Row, SPENT};
 use second::bytes::{hex, Bytes32, Reader};
 use second::case::{Case, Edition, MAX_SUM};
+use second::desk;
 use second::hashes;
 use second::judge::{all_refusals, first_refusal, judge, Rule, RULES};
 use second::ledger::{Ledger, MAX_POOL, ROW_BYTES};
 use second::maker::bends::BENDS;
+use second::maker::make_tape;
 use second::maker::tampers::TAMPERS;
-use second::maker::{make_tape, Tape};
 use second::seal::{Calibration, Gate, Seal, SEAL_BYTES};
 use second::tape::{play, read_plant, Player};
 use second::tree::{climb, parent, root_of_leaves, Record};
 
-const SEEDS: [u64; 3] = [1, 2, 0xffff_ffff_ffff_ffff];
-
-/// The tapes of three seeds, which are made once for all tests.
-type Tapes = std::iter::Zip<std::array::IntoIter<u64, 3>, std::slice::Iter<'static, Tape>>;
-
-/// Those of 600 entries, each with its seed.
-fn tapes() -> Tapes {
-    static TAPES: OnceLock<[Tape; 3]> = OnceLock::new();
-    let made = TAPES.get_or_init(|| SEEDS.map(|seed| make_tape(seed, 600)));
-    SEEDS.into_iter().zip(made)
-}
-
-/// Those of 700 entries, each with its seed.
-fn long_tapes() -> Tapes {
-    static TAPES: OnceLock<[Tape; 3]> = OnceLock::new();
-    let made = TAPES.get_or_init(|| SEEDS.map(|seed| make_tape(seed, 700)));
-    SEEDS.into_iter().zip(made)
-}
-
 /// Every answer that a tape of 600 entries must give.
 fn wanted_answers() -> Vec<(&'static str, Answer)> {
     let mut wanted: Vec<(&str, Answer)> = RULES.iter().map(|rule| ("case", rule.answer)).collect();
+    wanted.extend(desk::rules().map(|rule| ("desk", rule.answer)));
     for (kind, numbers) in [
         ("case", &[0, 1][..]),
+        ("desk", &[0, 1]),
         ("open", &[0, 1]),
         ("block", &[0, 2, 3]),
         ("seal", &[0, 20, 21, 22, 23]),
@@ -52,9 +38,9 @@ fn wanted_answers() -> Vec<(&'static str, Answer)> {
 }
 
 #[test]
-fn a_tape_of_600_entries_reaches_everything_in_3000_kilobytes() {
+fn a_tape_of_600_entries_reaches_everything_in_3500_kilobytes() {
     for (seed, tape) in tapes() {
-        assert!(tape.bytes.len() < 3_000_000, "seed {seed}");
+        assert!(tape.bytes.len() < 3_500_000, "seed {seed}");
         for (kind, answer) in wanted_answers() {
             let times = tape.coverage.times(kind, answer);
             assert!(times > 0, "seed {seed}: {kind} {answer}");
@@ -93,20 +79,6 @@ fn neighbours_in_the_table_are_tried_against_each_other() {
     }
 }
 
-/// The kinds and bodies of a tape's entries, up to one that is cut.
-fn entries(mut tape: &[u8]) -> Vec<(u8, &[u8])> {
-    let mut entries = Vec::new();
-    while let Some((head, rest)) = tape.split_first_chunk::<5>() {
-        let length = u32::from_le_bytes([head[1], head[2], head[3], head[4]]);
-        let Some((body, after)) = rest.split_at_checked(length as usize) else {
-            break;
-        };
-        entries.push((head[0], body));
-        tape = after;
-    }
-    entries
-}
-
 /// The entries of a tape before the runs for depots, whose tables are long.
 fn before_depots(tape: &[u8]) -> Vec<(u8, &[u8])> {
     let mut entries = entries(tape);
@@ -141,7 +113,7 @@ fn first_of(order: &[usize], applies: &[bool]) -> Option<usize> {
 fn a_tape_tells_judges_that_drop_or_swap_a_rule() {
     let right: Vec<usize> = (0..RULES.len()).collect();
     for (_, tape) in tapes() {
-        let applying = applying_rules(&tape.bytes);
+        let applying = applying_rules(&tape.judged);
         let is_told = |order: &[usize]| {
             let differs =
                 |applies: &Vec<bool>| first_of(order, applies) != first_of(&right, applies);
@@ -176,7 +148,7 @@ fn a_tape_finds_judges_that_drop_a_rule_or_compare_too_little_in_one_edition() {
     let in_both = |rule: &(u8, u8, Partly)| ![2, 10].contains(&rule.0);
     for (seed, tape) in tapes() {
         for edition in Edition::ALL {
-            let judged = judged_in(edition, &tape.bytes);
+            let judged = judged_in(edition, &tape.judged);
             for Rule { answer, .. } in RULES {
                 let is_found = is_found(&judged, answer, |_, _| false);
                 assert!(is_found, "seed {seed}: {answer}, {edition} edition");
@@ -318,7 +290,7 @@ fn is_found(
 #[test]
 fn a_tape_finds_judges_that_compare_one_byte_too_few() {
     for (seed, tape) in tapes() {
-        let judged = judged_cases(&tape.bytes);
+        let judged = judged_cases(&tape.judged);
         for (number, place, partly) in COMPARING {
             let answer = Answer::new(number, place);
             let found = |seen: Range<usize>| {
@@ -336,7 +308,7 @@ fn a_tape_finds_judges_that_compare_one_byte_too_few() {
 #[test]
 fn a_tape_finds_judges_that_leave_out_one_of_a_key_s_top_bits() {
     for (_, tape) in tapes() {
-        let judged = judged_cases(&tape.bytes);
+        let judged = judged_cases(&tape.judged);
         for left_out in [0x80, 0x40, 0x20, 0x10] {
             let has_top_bits = |key: &Bytes32| key[0] & (0xf0 ^ left_out) != 0;
             for which in 0..2 {
@@ -404,7 +376,7 @@ const WRONG_OPENINGS: [(&str, Opening); 9] = [
 #[test]
 fn a_tape_finds_openings_that_write_too_much() {
     for (seed, tape) in tapes() {
-        let opened = ledgers_before(&tape.bytes, b"F");
+        let opened = ledgers_before(&tape.judged, b"F");
         for (name, change) in WRONG_OPENINGS {
             let is_found = opened.iter().any(|before| {
                 let (right, _) = Ledger::open(before.table.clone(), before.roll.clone());
@@ -443,7 +415,7 @@ fn rise_by<T: PartialOrd>(rows: &[Bytes32], seen: impl Fn(&Bytes32) -> T) -> boo
 #[test]
 fn a_tape_finds_walks_that_compare_rows_otherwise() {
     for (_, tape) in tapes() {
-        let tables = rows_that_decide(&tape.bytes);
+        let tables = rows_that_decide(&tape.judged);
         let is_found = |wrong: &dyn Fn(&[Bytes32]) -> bool| {
             let differs = |rows: &Vec<Bytes32>| wrong(rows) != rise_by(rows, |row| *row);
             tables.iter().any(differs)
@@ -487,7 +459,7 @@ fn without_carry(amounts: [u64; 3]) -> (u64, u64) {
 #[test]
 fn a_tape_finds_sums_that_are_compared_in_part() {
     for (seed, tape) in tapes() {
-        let judged = judged_cases(&tape.bytes);
+        let judged = judged_cases(&tape.judged);
         let found = |differ: fn(&Case) -> bool| {
             is_found(&judged, Answer::new(11, 0), |_, case| {
                 differ(case) || case.value_in() > MAX_SUM
@@ -541,7 +513,7 @@ const CEILINGS: [(&str, Ceiling); 7] = [
 #[test]
 fn a_tape_finds_wrong_ceilings_of_the_balance() {
     for (seed, tape) in tapes() {
-        let judged = judged_cases(&tape.bytes);
+        let judged = judged_cases(&tape.judged);
         let found = |is_above: fn(&Case) -> bool| {
             is_found(&judged, Answer::new(11, 0), |_, case| {
                 case.value_in() != case.value_out() || is_above(case)
@@ -557,7 +529,7 @@ fn a_tape_finds_wrong_ceilings_of_the_balance() {
 #[test]
 fn a_tape_finds_a_ceiling_that_is_asked_too_early_or_too_late() {
     for (seed, tape) in tapes() {
-        let judged = judged_cases(&tape.bytes);
+        let judged = judged_cases(&tape.judged);
         let mut above = judged
             .iter()
             .filter(|(_, case)| case.value_in() == case.value_out() && case.value_in() > MAX_SUM)
@@ -706,7 +678,7 @@ impl Searched {
 #[test]
 fn a_long_tape_finds_searches_that_go_wrong() {
     for (seed, tape) in long_tapes() {
-        let searched = searched_cases(&tape.bytes);
+        let searched = searched_cases(&tape.judged);
         let found = |halving: &Halving| {
             let search = |rows: &[Bytes32], row: &Bytes32| halving.search(rows, row);
             searched.iter().any(|case| case.tells(&search))
@@ -721,7 +693,7 @@ fn a_long_tape_finds_searches_that_go_wrong() {
 #[test]
 fn a_long_tape_finds_gaps_that_are_one_off_at_either_end() {
     for (seed, tape) in long_tapes() {
-        let searched = searched_cases(&tape.bytes);
+        let searched = searched_cases(&tape.judged);
         let found = |moved: fn(usize, usize) -> usize| {
             let search = |rows: &[Bytes32], row: &Bytes32| {
                 rows.binary_search(row)
@@ -744,7 +716,7 @@ fn a_long_tape_finds_gaps_that_are_one_off_at_either_end() {
 #[test]
 fn a_long_tape_finds_searches_by_another_order() {
     for (seed, tape) in long_tapes() {
-        let searched = searched_cases(&tape.bytes);
+        let searched = searched_cases(&tape.judged);
         for byte in 0..ROW_BYTES {
             let without = |row: &Bytes32| [&row[..byte], &row[byte + 1..]].concat();
             assert!(finds_order(&searched, without), "{seed}: without {byte}");
@@ -790,15 +762,6 @@ const ROW_RUNS: [(&str, &[&str]); 11] = [
     ("row-not-shifted", &["case 0 0", "case 8 1", "row 6"]),
     ("row-shifted-by-one", &["case 0 0", "case 8 1", "row 7"]),
 ];
-
-/// The lines of a run.
-fn lines_of<'a>(lines: &'a [String], run: &str) -> impl Iterator<Item = &'a str> {
-    let name = format!("run {run}");
-    let behind = lines.iter().skip_while(move |line| **line != name).skip(1);
-    behind
-        .take_while(|line| !line.starts_with("run "))
-        .map(String::as_str)
-}
 
 /// The lines of a run that are about cases: answers, and rows.
 fn case_lines<'a>(lines: &'a [String], run: &str) -> Vec<&'a str> {
@@ -973,7 +936,7 @@ const WRONG_ROWS: [(&str, WrongRow); 21] = [
 #[test]
 fn the_row_runs_of_a_tape_find_rows_that_are_wrong() {
     for (seed, tape) in tapes() {
-        let mut refused = refused_as_spent(&tape.bytes);
+        let mut refused = refused_as_spent(&tape.judged);
         let is_right = |case: &Refused| case.rows[case.row] == *case.named();
         assert!(refused.iter().all(is_right), "seed {seed}: the right one");
         refused.retain(|case| ROW_RUNS.iter().any(|(run, _)| *run == case.run));
@@ -998,7 +961,7 @@ fn leaked_row(ledger: &Ledger, case: &Case) -> usize {
 #[test]
 fn a_tape_finds_rows_that_go_with_another_answer() {
     for (seed, tape) in tapes() {
-        let judged = judged_cases(&tape.bytes);
+        let judged = judged_cases(&tape.judged);
         for number in (0..=17).filter(|number| ![1, SPENT].contains(number)) {
             let leaks = |(ledger, case): &(Ledger, Case)| {
                 let refusal = first_refusal(ledger, case).unwrap_or(Answer::PASSED);
@@ -1013,7 +976,7 @@ fn a_tape_finds_rows_that_go_with_another_answer() {
 #[test]
 fn a_tape_has_a_spent_nullifier_s_row_that_refusals_3_and_7_do_not_tell() {
     for (seed, tape) in tapes() {
-        let judged = judged_cases(&tape.bytes);
+        let judged = judged_cases(&tape.judged);
         for number in [3, 7] {
             let hides_a_row = |(ledger, case): &(Ledger, Case)| {
                 let refusal = first_refusal(ledger, case);
@@ -1030,7 +993,7 @@ fn a_tape_has_a_spent_nullifier_s_row_that_refusals_3_and_7_do_not_tell() {
 fn a_long_tape_names_the_row_that_each_of_its_row_searches_planted() {
     for (seed, tape) in long_tapes() {
         let mut searches = 0;
-        for case in refused_as_spent(&tape.bytes) {
+        for case in refused_as_spent(&tape.judged) {
             let planted = case.run.strip_prefix("row-").and_then(|rest| {
                 let (row, rows) = rest.split_once("-of-")?;
                 Some((row.parse().ok()?, rows.parse().ok()?))
@@ -1217,7 +1180,7 @@ const WRONG_BOUNDS: [(&str, WrongBounds); 14] = [
 #[test]
 fn the_pool_runs_of_a_tape_find_bounds_that_are_wrong() {
     for (seed, tape) in tapes() {
-        let asked = asked_in_pool_runs(&tape.bytes);
+        let asked = asked_in_pool_runs(&tape.judged);
         let judged: Vec<(Ledger, Case)> = asked
             .into_iter()
             .filter_map(|(ledger, case)| Some((ledger, case?)))
@@ -1240,7 +1203,7 @@ fn the_pool_runs_of_a_tape_find_a_17_that_is_asked_too_early() {
     let last = RULES.len() - 1;
     assert_eq!(RULES[last].answer, Answer::new(17, 0));
     for (seed, tape) in tapes() {
-        let asked = asked_in_pool_runs(&tape.bytes);
+        let asked = asked_in_pool_runs(&tape.judged);
         for (index, rule) in RULES[..last].iter().enumerate() {
             let is_told = asked.iter().any(|(ledger, case)| {
                 let Some(case) = case else { return false };
@@ -1282,7 +1245,7 @@ const WRONG_DAMAGES: [(&str, WrongDamage); 8] = [
 #[test]
 fn the_pool_runs_of_a_tape_find_pools_that_are_wrongly_taken_for_damage_or_not() {
     for (seed, tape) in tapes() {
-        let asked = asked_in_pool_runs(&tape.bytes);
+        let asked = asked_in_pool_runs(&tape.judged);
         let found = |wrong: WrongDamage| {
             asked.iter().any(|(ledger, _)| {
                 let mut without_pool = ledger.clone();
@@ -1381,7 +1344,7 @@ fn a_tape_of_600_entries_shows_the_answers_of_its_edition_runs() {
         for (run, lengths, expected) in EDITION_RUNS {
             let said = lines_of(&tape.lines, run).filter_map(said_of_pool);
             assert_eq!(said.collect::<Vec<_>>(), expected, "seed {seed}: {run}");
-            let entries = entries_of(&tape.bytes, run).into_iter();
+            let entries = entries_of(&tape.judged, run).into_iter();
             let files = entries.filter(|(kind, _)| *kind == b'C');
             let made: Vec<usize> = files.map(|(_, file)| file.len()).collect();
             assert_eq!(made, lengths, "seed {seed}: {run}");
@@ -1543,7 +1506,7 @@ fn read_elsewhere(file: &[u8], fields: &[Field], place: Placing) -> Option<Case>
 #[test]
 fn the_edition_runs_of_a_tape_find_each_field_that_is_not_moved_as_it_should() {
     for (seed, tape) in tapes() {
-        let filed = filed_in_edition_runs(&tape.bytes);
+        let filed = filed_in_edition_runs(&tape.judged);
         let found = |fields: &[Field], place: Placing| {
             let is_told =
                 |filed: &Filed| filed.tells(|filed| read_elsewhere(&filed.file, fields, place));
@@ -1667,7 +1630,7 @@ fn read_as(file: &[u8], edition: Option<Edition>) -> Option<Case> {
 #[test]
 fn the_edition_runs_of_a_tape_find_lengths_that_are_wrongly_taken_or_not() {
     for (seed, tape) in tapes() {
-        let filed = filed_in_edition_runs(&tape.bytes);
+        let filed = filed_in_edition_runs(&tape.judged);
         let found = |taking: Taking| {
             let read = |filed: &Filed| read_as(&filed.file, taking(filed.file.len()));
             filed.iter().any(|filed| filed.tells(read))
@@ -1721,7 +1684,7 @@ const REMEMBERING: [(&str, Remembering); 4] = [
 #[test]
 fn the_edition_runs_of_a_tape_find_judges_that_remember_an_edition() {
     for (seed, tape) in tapes() {
-        let filed = filed_in_edition_runs(&tape.bytes);
+        let filed = filed_in_edition_runs(&tape.judged);
         for (name, read) in REMEMBERING {
             let is_found = filed.iter().any(|filed| filed.tells(read));
             assert!(is_found, "seed {seed}: a judge that {name}");
@@ -1750,7 +1713,7 @@ fn the_edition_runs_of_a_tape_find_tables_that_are_kept_apart_by_edition() {
                 let mut known = before.flat_map(|file| nullifiers_of(file));
                 case.edition() == edition && !known.any(|row| row == case.nullifiers[named])
             };
-            let is_found = filed_in_edition_runs(&tape.bytes).iter().any(is_told);
+            let is_found = filed_in_edition_runs(&tape.judged).iter().any(is_told);
             assert!(is_found, "seed {seed}: the {edition} edition's own table");
         }
     }
@@ -1772,7 +1735,7 @@ const CARRIED_ENDS: [(Edition, [usize; 8]); 2] = [
 #[test]
 fn the_edition_runs_of_a_tape_find_judges_that_look_at_a_carried_byte() {
     for (seed, tape) in tapes() {
-        let mut filed = filed_in_edition_runs(&tape.bytes);
+        let mut filed = filed_in_edition_runs(&tape.judged);
         filed.retain(|filed| filed.right_answer().is_pass());
         for (edition, ends) in CARRIED_ENDS {
             let accepted = filed
@@ -1800,7 +1763,7 @@ fn the_edition_runs_of_a_tape_find_judges_that_carry_a_byte_too_much() {
         (Edition::Second, [175, 208, 303, 1_698]),
     ];
     for (seed, tape) in tapes() {
-        let filed = filed_in_edition_runs(&tape.bytes);
+        let filed = filed_in_edition_runs(&tape.judged);
         let accepted: Vec<&Filed> = filed
             .iter()
             .filter(|filed| filed.right_answer().is_pass())
@@ -1830,7 +1793,7 @@ fn the_edition_runs_of_a_tape_find_judges_that_carry_a_byte_too_much() {
 #[test]
 fn the_scenes_of_a_tape_find_fields_that_are_not_moved_as_well() {
     for (seed, tape) in tapes() {
-        let filed = filed(&tape.bytes, |run| run.starts_with("bench"));
+        let filed = filed(&tape.judged, |run| run.starts_with("bench"));
         let (name, place) = WRONG_PLACES[0];
         for field in BEHIND_THE_PROOF {
             let read = |filed: &Filed| read_elsewhere(&filed.file, &[field], place);
@@ -1861,13 +1824,13 @@ fn pairs_in_two_orders(tape: &[u8]) -> Vec<[usize; 2]> {
 #[test]
 fn a_long_tape_has_both_editions_by_the_dice_and_pairs_of_both_in_two_orders() {
     for seed in SEEDS {
-        let tape = make_tape(seed, 2_000);
-        let cases = judged_cases(&tape.bytes);
+        let tape = Tape::of(seed, 2_000);
+        let cases = judged_cases(&tape.judged);
         let first = |(_, case): &&(Ledger, Case)| case.edition() == Edition::First;
         let of_first = cases.iter().filter(first).count();
         let is_even = 3 * of_first > cases.len() && 3 * of_first < 2 * cases.len();
         assert!(is_even, "seed {seed}: {of_first} of {}", cases.len());
-        let pairs = pairs_in_two_orders(&tape.bytes);
+        let pairs = pairs_in_two_orders(&tape.judged);
         for wanted in [[4_210, 4_106], [4_106, 4_210]] {
             let times = pairs.iter().filter(|pair| **pair == wanted).count();
             assert!(times > 1, "seed {seed}: {wanted:?} {times} times");
@@ -2010,7 +1973,7 @@ fn a_tape_of_600_entries_has_a_dozen_looks_at_long_tables_at_most() {
     for (seed, tape) in tapes() {
         let mut player = Player::new();
         let mut looks = 0;
-        for (kind, body) in entries(&tape.bytes) {
+        for (kind, body) in entries(&tape.judged) {
             looks += usize::from(kind == b'M' && player.ledger.table.len() > 100_000);
             // A look itself changes nothing.
             if kind != b'M' && player.play(kind, body).is_none() {
@@ -2355,19 +2318,12 @@ fn the_depot_runs_of_a_tape_find_wrong_limits_walks_and_looks() {
     let mut judges: Vec<Depots> = wrong.iter().map(|(_, judge)| *judge).collect();
     judges.push(RIGHT_DEPOTS);
     for (seed, tape) in tapes() {
-        let mut differ = depots_that_differ(&tape.bytes, &judges);
+        let mut differ = depots_that_differ(&tape.judged, &judges);
         assert_eq!(differ.pop(), Some(false), "seed {seed}: the right one");
         for ((name, _), differs) in wrong.iter().zip(differ) {
             assert!(differs, "seed {seed}: a judge that {name}");
         }
     }
-}
-
-/// The entries of a run.
-fn entries_of<'a>(tape: &'a [u8], run: &str) -> Vec<(u8, &'a [u8])> {
-    let entries = entries(tape).into_iter();
-    let from = entries.skip_while(|entry| *entry != (b'N', run.as_bytes()));
-    from.skip(1).take_while(|(kind, _)| *kind != b'N').collect()
 }
 
 /// A case that brings a tree to 2^level leaves, as a run has it. The leaves before
@@ -2432,7 +2388,7 @@ fn carries(tape: &[u8]) -> impl Iterator<Item = (usize, Carry)> + '_ {
 #[test]
 fn the_carry_runs_of_a_tape_show_the_root_of_the_whole_tree() {
     for (seed, tape) in tapes() {
-        for (level, carry) in carries(&tape.bytes) {
+        for (level, carry) in carries(&tape.judged) {
             assert_eq!(carry.leaves.len() + 2, 1 << level);
             let planted = hex(&carry.record.root());
             assert_eq!(planted, carry.root(0), "seed {seed}: before {level}");
@@ -2470,7 +2426,7 @@ fn carried(record: &Record, leaf: &Bytes32, level: usize) -> Bytes32 {
 #[test]
 fn the_carry_runs_of_a_tape_find_each_carry_that_is_wrong() {
     for (seed, tape) in tapes() {
-        for (level, carry) in carries(&tape.bytes) {
+        for (level, carry) in carries(&tape.judged) {
             let before = carry.record.clone().with_leaf(&carry.added[0]);
             let root_with = |node: Bytes32| {
                 let mut after = before.clone();
@@ -2492,7 +2448,7 @@ fn the_carry_runs_of_a_tape_find_each_carry_that_is_wrong() {
 #[test]
 fn a_long_tape_takes_the_pool_past_both_bounds_and_mostly_leaves_it_within() {
     for seed in SEEDS {
-        let judged = judged_cases(&make_tape(seed, 2_000).bytes);
+        let judged = judged_cases(&Tape::of(seed, 2_000).judged);
         let (mut below, mut above, mut passed) = (0, 0, 0);
         for (ledger, case) in &judged {
             match first_refusal(ledger, case) {
@@ -2522,7 +2478,7 @@ fn what_is_done_on_a_planted_ledger_is_followed_by_a_look_at_its_memory() {
                     is_planted = kind != b'O';
                     is_due = is_planted;
                 }
-                b'C' | b'B' | b'T' | b'A' => is_due = is_planted,
+                b'C' | b'D' | b'B' | b'T' | b'A' => is_due = is_planted,
                 b'M' => is_due = false,
                 _ => (),
             }
@@ -2543,7 +2499,7 @@ fn spare(buffer: &[u8], used: u64) -> &[u8] {
 fn planted_ledgers_have_spare_bytes_that_are_not_zero() {
     for (seed, tape) in tapes() {
         let mut ragged = 0;
-        for (kind, body) in entries(&tape.bytes).into_iter().take(600) {
+        for (kind, body) in entries(&tape.judged).into_iter().take(600) {
             if kind != b'P' {
                 continue;
             }
@@ -2586,7 +2542,7 @@ fn gates_without_number(tape: &[u8]) -> Vec<Gate> {
 #[test]
 fn a_tape_has_a_pull_that_is_no_number_at_every_sound_gate() {
     for (seed, tape) in tapes() {
-        let gates = gates_without_number(&tape.bytes);
+        let gates = gates_without_number(&tape.judged);
         for gate in [Gate::None, Gate::AtLeast(-1.0), Gate::Between(-1.0, 1.0)] {
             assert!(gates.contains(&gate), "seed {seed}: {gate:?}");
         }

@@ -8,8 +8,8 @@ use second::ledger::{Ledger, ROW_BYTES};
 use second::seal::{seal_bytes, Gate, Seal};
 use second::sha256::sha256;
 use second::tape::{
-    entry, keep_body, plant_body, play, read_plant, Fill, Player, MAX_BODY_BYTES, MAX_ROLL_BYTES,
-    MAX_TABLE_BYTES,
+    draft_body, entry, judged_file, keep_body, plant_body, play, read_plant, Fill, Player,
+    MAX_BODY_BYTES, MAX_DESK_BYTES, MAX_ROLL_BYTES, MAX_TABLE_BYTES,
 };
 use second::tree::{empty_root, Tree, DEPTH};
 
@@ -116,6 +116,118 @@ fn a_case_that_is_refused_as_spent_is_followed_by_its_row_and_no_other_one_is() 
     tape.extend([entry(b'C', &[]), entry(b'B', &[]), entry(b'C', &file)].concat());
     expected.extend(["case 1 0", "block 0 0", "case 0 0"].map(str::to_owned));
     assert_eq!(play(&tape), expected);
+}
+
+/// The desk's line with this answer over these bytes.
+fn desk_line(answer: &str, buffer: &[u8]) -> String {
+    format!("desk {answer} {}", hex(&sha256(buffer)))
+}
+
+/// A `D` entry with a buffer of this length.
+fn drafting(length: u32, draft: &[u8]) -> Vec<u8> {
+    entry(b'D', &[&length.to_le_bytes(), draft].concat())
+}
+
+/// A file with zero bytes in place of the nullifiers.
+fn without_nullifiers(file: &[u8]) -> Vec<u8> {
+    let mut draft = file.to_vec();
+    draft[48..112].fill(0);
+    draft
+}
+
+#[test]
+fn a_draft_is_written_and_then_judged_as_the_case_that_it_has_become() {
+    let mut shift = Shift::fresh(7, 4, 2);
+    let case = shift.good_case();
+    let file = case.to_bytes();
+    let length = file.len() as u32;
+    let draft = without_nullifiers(&file);
+    let tape = [
+        drafting(length, &draft),
+        opening(128, 64),
+        drafting(length, &draft),
+        drafting(length, &file),
+        entry(b'C', &file),
+        entry(b'B', &[]),
+    ];
+    let written = desk_line("0 0", &file);
+    let row = format!(
+        "row {}",
+        usize::from(case.nullifiers[0] > case.nullifiers[1])
+    );
+    let expected = [
+        &written,
+        "case 2 0",
+        "open 0 0",
+        &written,
+        "case 0 0",
+        &written,
+        "case 8 1",
+        &row,
+        "case 8 1",
+        &row,
+        "block 0 0",
+    ];
+    assert_eq!(play(&tape.concat()), expected);
+}
+
+#[test]
+fn a_refused_draft_prints_its_untouched_buffer_and_changes_nothing() {
+    let mut shift = Shift::fresh(8, 4, 2);
+    let file = shift.good_case().to_bytes();
+    let length = file.len();
+    let mut misformed = file.clone();
+    misformed[length - 32] |= 0x10;
+    let looks = [entry(b'L', &[]), entry(b'R', &[]), entry(b'M', &[])].concat();
+    let before = play(&[opening(128, 64), looks.clone()].concat());
+    let drafts = [
+        drafting(length as u32, &misformed),
+        drafting(length as u32 - 1, &file),
+        drafting(length as u32, &file[1..]),
+        drafting(0, &[]),
+        drafting(4_352, &file),
+    ];
+    let tape = [opening(128, 64), drafts.concat(), looks].concat();
+    let lent = |length: usize| vec![0xa5; length];
+    let refusals = [
+        desk_line("9 3", &lent(length)),
+        desk_line("1 0", &lent(length - 1)),
+        desk_line("1 0", &lent(length)),
+        desk_line("1 0", &[]),
+        desk_line("1 0", &lent(4_352)),
+    ];
+    let expected = [&before[..1], &refusals, &before[1..]].concat();
+    assert_eq!(play(&tape), expected);
+}
+
+#[test]
+fn a_draft_s_body_lies_as_agreed() {
+    let body = draft_body(0x0102, &[7, 8]);
+    assert_eq!(body, [2, 1, 0, 0, 7, 8]);
+    let case = Shift::fresh(9, 4, 2).good_case();
+    let file = case.to_bytes();
+    let body = draft_body(file.len(), &without_nullifiers(&file));
+    assert_eq!(judged_file(b'D', &body).as_deref(), Some(&file[..]));
+    assert_eq!(judged_file(b'C', &[1, 2]).as_deref(), Some(&[1, 2][..]));
+    assert_eq!(judged_file(b'D', &body[..body.len() - 1]), None);
+    assert_eq!(judged_file(b'D', &[0; 3]), None);
+    assert_eq!(judged_file(b'B', &[]), None);
+}
+
+#[test]
+fn a_draft_may_have_any_length_and_its_buffer_up_to_4352_bytes() {
+    assert_eq!(MAX_DESK_BYTES, 4_352);
+    let longest = drafting(1, &[0; MAX_BODY_BYTES - 4]);
+    assert_eq!(play(&longest), [desk_line("1 0", &[0xa5])]);
+    assert_broken(&[
+        entry(b'D', &[]),
+        entry(b'D', &[0; 3]),
+        drafting(4_353, &[]),
+        drafting(4_353, &[0; 4_210]),
+        drafting(u32::MAX, &[]),
+        drafting(1 << 16, &[]),
+        drafting(0, &[0; MAX_BODY_BYTES - 3]),
+    ]);
 }
 
 #[test]

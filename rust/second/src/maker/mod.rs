@@ -2,13 +2,15 @@
 //!
 //! A tape is a run of scenes. Each scene opens or plants a ledger and does
 //! something with it: an ordinary day with notes created and spent, odd
-//! rooms, damage, ledgers from elsewhere, big ledgers, seals. Wherever the
-//! maker knows what the answer has to be, it checks the judge's.
+//! rooms, damage, ledgers from elsewhere, big ledgers, seals. Of the cases that
+//! the desk could have written half come as drafts, which it writes. Wherever
+//! the maker knows what the answer has to be, it checks the judge's.
 
 pub mod bends;
 mod by_rule;
 mod coverage;
 mod depots;
+mod drafts;
 mod edges;
 mod editions;
 mod misses;
@@ -27,11 +29,14 @@ use crate::case::{Case, Edition};
 use crate::judge::all_refusals;
 use crate::ledger::{Ledger, MAX_POOL};
 use crate::random::Random;
-use crate::tape::{entry, plant_body, play, Player, MAX_BODY_BYTES};
+use crate::tape::{
+    desk_line, draft_body, entry, plant_body, play, Player, LENT_BYTE, MAX_BODY_BYTES,
+};
 use crate::wallet::{in_edition, set_nullifiers};
 
 use bends::{Bench, Bend, BENDS};
 pub use coverage::Coverage;
+use drafts::{draft_of, is_of_desk};
 use purse::Purse;
 use tampers::{Tamper, TAMPERS};
 
@@ -71,8 +76,18 @@ const WRONG_LENGTHS: [usize; 6] = [0, 1, 4_105, 4_107, 4_209, 4_211];
 struct Made {
     bytes: Vec<u8>,
     purpose: Option<String>,
-    /// The edition, if it is a case of a right length.
+    /// The edition, if it is a case or a draft of a right length.
     edition: Option<Edition>,
+}
+
+/// The edition of an entry's case or draft, if it is of a right length.
+fn edition_of(kind: u8, body: &[u8]) -> Option<Edition> {
+    let length = match kind {
+        b'C' => Some(body.len()),
+        b'D' => body.len().checked_sub(4),
+        _ => None,
+    };
+    length.and_then(Edition::of_length)
 }
 
 /// A tape in the making.
@@ -192,14 +207,14 @@ impl Maker {
             b'M' => self.memory_due = false,
             _ => (),
         }
-        if matches!(kind, b'P' | b'K' | b'T' | b'A' | b'F' | b'C' | b'B') {
+        if matches!(kind, b'P' | b'K' | b'T' | b'A' | b'F' | b'C' | b'D' | b'B') {
             self.memory_due = self.is_planted;
         }
         if kind == b'N' || !self.is_done() {
             self.made.push(Made {
                 bytes,
                 purpose,
-                edition: Edition::of_length(body.len()).filter(|_| kind == b'C'),
+                edition: edition_of(kind, body),
             });
         }
         if kind != b'N' {
@@ -214,9 +229,40 @@ impl Maker {
         coverage::answer_in(&lines).expect("an answer")
     }
 
+    /// Has a case file judged. Half of those that the desk could have written come
+    /// as drafts.
+    fn ask_file(&mut self, file: &[u8], purpose: &str) -> Answer {
+        match Case::read(file).filter(is_of_desk) {
+            Some(case) if self.random.one_in(2) => {
+                let draft = draft_of(&mut self.random, &case);
+                self.ask_draft(&draft, &case, purpose)
+            }
+            _ => self.ask(b'C', file, Some(purpose.to_owned())),
+        }
+    }
+
+    /// Puts a draft on the tape of which the desk has to write this case, and gives
+    /// back what the case is answered.
+    fn ask_draft(&mut self, draft: &Case, case: &Case, purpose: &str) -> Answer {
+        let (draft, file) = (draft.to_bytes(), case.to_bytes());
+        let body = draft_body(file.len(), &draft);
+        let lines = self.put(b'D', &body, Some(purpose.to_owned()));
+        let (written, judged) = lines.split_first().expect("the desk's line");
+        assert_eq!(*written, desk_line(Answer::PASSED, &file), "{purpose}");
+        coverage::answer_in(judged).expect("an answer")
+    }
+
+    /// Puts a draft and a buffer of this length on the tape, which the desk has to
+    /// refuse so.
+    fn refuse_draft(&mut self, draft: &[u8], length: usize, refusal: Answer) {
+        let purpose = format!("desk {refusal}");
+        let lines = self.put(b'D', &draft_body(length, draft), Some(purpose));
+        assert_eq!(lines, [desk_line(refusal, &vec![LENT_BYTE; length])]);
+    }
+
     /// Puts a case file on the tape, and checks the answer.
     fn ask_case(&mut self, file: &[u8], expected: Answer, purpose: &str) {
-        let answer = self.ask(b'C', file, Some(purpose.to_owned()));
+        let answer = self.ask_file(file, purpose);
         assert_eq!(answer, expected, "a case made for: {purpose}");
         if !self.is_long() && self.random.one_in(CASES_TO_A_LOOK) {
             self.look_at_memory(if answer.is_pass() {

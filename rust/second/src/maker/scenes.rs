@@ -6,7 +6,8 @@ use crate::case::{Amount, Case, Edition, OldNote, Position, MAX_MONEY};
 use crate::ledger::{is_pool, Ledger, MAX_POOL, ROW_BYTES};
 use crate::random::Random;
 use crate::tape::{
-    entry, keep_body, plant_body, Fill, MAX_BODY_BYTES, MAX_ROLL_BYTES, MAX_TABLE_BYTES,
+    draft_body, entry, keep_body, plant_body, Fill, MAX_BODY_BYTES, MAX_DESK_BYTES, MAX_ROLL_BYTES,
+    MAX_TABLE_BYTES,
 };
 use crate::tree::{climb, parent, Record, Tree, DEPTH, FULL};
 use crate::wallet::{any_proof, balance, idle_note, set_nullifiers, write_case, Note, Plan};
@@ -14,6 +15,7 @@ use crate::wallet::{any_proof, balance, idle_note, set_nullifiers, write_case, N
 use super::bends::{bend_named, BENDS};
 use super::by_rule::{among, any_rows, depot, depot_of_anchors};
 use super::depots::{any_depot, depots, rows_not_shown};
+use super::drafts::{bent_draft, desk_runs, misfit_draft};
 use super::editions::edition_runs;
 use super::misses::near_misses;
 use super::pools::pool_runs;
@@ -48,7 +50,7 @@ const FIRST: [Scene; 13] = [
 ];
 
 /// What follows is chosen from these.
-const LATER: [Scene; 12] = [
+const LATER: [Scene; 14] = [
     ("day", day),
     ("day", day),
     ("day", day),
@@ -59,7 +61,9 @@ const LATER: [Scene; 12] = [
     ("elsewhere", elsewhere),
     ("anywhere", anywhere),
     ("order", order),
+    ("order", order),
     ("deep-records", deep_records),
+    ("drafts", drafts),
     ("something-long", something_long),
 ];
 
@@ -129,6 +133,7 @@ impl Maker {
             spent_rows(self);
             pool_runs(self);
             edition_runs(self);
+            desk_runs(self);
             if self.wanted > LONG_TAPE {
                 searches(self);
                 rows_not_shown(self);
@@ -465,6 +470,19 @@ fn elsewhere(maker: &mut Maker) {
     }
     maker.look_at_ledger();
     maker.look_at_rows();
+}
+
+/// Drafts of bent cases on a ledger from elsewhere, some of them of wrong lengths.
+fn drafts(maker: &mut Maker) {
+    plant_elsewhere(maker, None);
+    for _ in 0..8 + maker.random.below(12) {
+        if maker.random.one_in(6) {
+            misfit_draft(maker);
+        } else {
+            bent_draft(maker);
+        }
+    }
+    maker.look_at_ledger();
 }
 
 /// Some due bends need notes of values that no ledger grown here has, and a pool
@@ -817,7 +835,7 @@ fn both_orders(
 ) -> [[Answer; 2]; 2] {
     [[&one, &other], [&other, &one]].map(|files| {
         maker.plant(ledger, "ledger for two orders");
-        let answers = files.map(|file| maker.ask(b'C', file, Some("two orders".to_owned())));
+        let answers = files.map(|file| maker.ask_file(file, "two orders"));
         maker.look_at_ledger();
         answers
     })
@@ -902,8 +920,8 @@ fn broken_entry(random: &mut Random) -> Vec<u8> {
     let plant = plant_body(&ledger(64, 64));
     let keep = keep_body(&ledger(64, 64));
     let one_more = |body: &[u8]| [body, &[0]].concat();
-    match random.below(18) {
-        0 => entry(*random.pick(b"XoD\0\xff"), &[]),
+    match random.below(20) {
+        0 => entry(*random.pick(b"Xod\0\xff"), &[]),
         1 => entry(*random.pick(b"FBLRM"), &[0]),
         2 => entry(b'O', &opening(64, 64)[..7]),
         3 => entry(b'O', &[0; 9]),
@@ -920,6 +938,8 @@ fn broken_entry(random: &mut Random) -> Vec<u8> {
         14 => entry(*random.pick(b"TA"), &[0; 48][..*random.pick(&[0, 24, 47])]),
         15 => entry(*random.pick(b"TA"), &[0; 49]),
         16 => entry(*random.pick(b"TA"), &fill_past_all(random).body()),
+        17 => entry(b'D', &[0; 3][..random.below(4)]),
+        18 => entry(b'D', &draft_body(MAX_DESK_BYTES + 1, &[])),
         _ => entry(b'C', &vec![0; MAX_BODY_BYTES + 1]),
     }
 }

@@ -3,6 +3,8 @@
 // Each test file is built by itself and uses only some of this.
 #![allow(dead_code)]
 
+pub mod tapes;
+
 use second::answer::Answer;
 use second::bytes::Bytes32;
 use second::case::{Amount, Case, OldNote, Position, MAX_MONEY};

@@ -9,7 +9,7 @@ use borrow.Author.Tests.{ne-eqb, le-leb, lt-leb}
 use Rattle.text.specs.Words.{nameLine}
 use Rattle.replay.specs.declared.State.{State}
 use Rattle.replay.specs.Looks.{ledgerText, rowsText, memoryText, sealText}
-use Rattle.replay.specs.Tape.{turnOf, brokenTurn, openTurn, plantTurn, tableTurn, rollTurn, layTurn, caseTurn, freshTurn, blockTurn, lookTurn, bareTurn, sealTurn, nameTurn, entryTurn}
+use Rattle.replay.specs.Tape.{turnOf, brokenTurn, openTurn, plantTurn, tableTurn, rollTurn, layTurn, caseTurn, deskTurn, freshTurn, blockTurn, lookTurn, bareTurn, sealTurn, nameTurn, entryTurn}
 
 -- a name that is short enough, and one that is not
 module _ (body t r : List ℕ) (s : State) where
@@ -59,6 +59,10 @@ module _ (kind : ℕ) (t r : List ℕ) (s : State) where
     unfolding entryTurn
     entry-case h = rw h
 
+    pub entry-desk : kind ≡ 68 → deskTurn body t r s ≡ entryTurn kind body t r s
+    unfolding entryTurn
+    entry-desk h = rw h
+
     pub entry-seal : kind ≡ 83 → length body ≡ 41 → turnOf s t r (sealText body) ≡ entryTurn kind body t r s
     unfolding entryTurn sealTurn
     entry-seal h k = rw (h, k)
@@ -71,14 +75,14 @@ module _ (kind : ℕ) (t r : List ℕ) (s : State) where
     unfolding entryTurn
     entry-name h = rw h
 
-    module _ (o : kind ≡ 79 → ⊥) (c : kind ≡ 67 → ⊥) (z : kind ≡ 83 → ⊥) (n : kind ≡ 78 → ⊥) where
+    module _ (o : kind ≡ 79 → ⊥) (c : kind ≡ 67 → ⊥) (d : kind ≡ 68 → ⊥) (z : kind ≡ 83 → ⊥) (n : kind ≡ 78 → ⊥) where
       pub entry-bare : length body ≡ 0 → bareTurn kind t r s ≡ entryTurn kind body t r s
       unfolding entryTurn
-      entry-bare h = rw (ne-eqb kind 79 o, ne-eqb kind 67 c, ne-eqb kind 83 z, ne-eqb kind 78 n, h)
+      entry-bare h = rw (ne-eqb kind 79 o, ne-eqb kind 67 c, ne-eqb kind 68 d, ne-eqb kind 83 z, ne-eqb kind 78 n, h)
 
       pub entry-lay : (length body ≡ 0 → ⊥) → layTurn kind body t r s ≡ entryTurn kind body t r s
       unfolding entryTurn
-      entry-lay h = rw (ne-eqb kind 79 o, ne-eqb kind 67 c, ne-eqb kind 83 z, ne-eqb kind 78 n, ne-eqb (length body) 0 h)
+      entry-lay h = rw (ne-eqb kind 79 o, ne-eqb kind 67 c, ne-eqb kind 68 d, ne-eqb kind 83 z, ne-eqb kind 78 n, ne-eqb (length body) 0 h)
 
     pub lay-given : kind ≡ 80 → plantTurn true body t r ≡ layTurn kind body t r s
     unfolding layTurn

@@ -1,34 +1,35 @@
 -- What a run of an entry's calls leaves and writes is the turn of the definition. n and m are the bytes lent of the buffers t and r, p and q what the
 -- calls left in them, x and x′ the page before and after, s the state that is answered and e the text's end.
 -- Assumes nothing.
-use Prim.Native.Nat.{ℕ, _+_, _%_, _^_, _≤_}
+use Prim.Native.Nat.{ℕ, zero, suc, _+_, _%_, _^_, _<_, _≤_}
 use mathlib.Core.Path.{_≡_, refl, sym, ap, subst, _∙_}
 use mathlib.Core.Bool.{Bool, true, false, cond}
-use mathlib.Core.List.{List, _++_}
+use mathlib.Core.List.{List, _∷_, _++_}
 use native.Mathlib.Numerals.{add-one}
 use native.Mathlib.Omega.{arith}
 use lib.Dec.{eqb, leb}
-use lib.ListN.{length, take, drop, length-append}
+use lib.ListN.{length, take, drop, replicate, length-append}
 use lib.Seq.{length-take-le, take-at, drop-at}
-use borrow.Author.Tests.{eqb-true, leb-true}
+use borrow.Author.Tests.{eqb-true, leb-true, le-leb, lt-leb}
 use Rattle.octets.specs.Numbers.{little}
 use Rattle.octets.specs.Parts.{zeros, field}
 use Rattle.octets.proofs.PartLaws.{zeros-length, field-length}
 use Rattle.text.specs.Words.{ascii}
 use Rattle.text.specs.Answers.{answerLine, answerAndRow}
 use Rattle.text.specs.Pen.{pen, Wrote}
-use Rattle.text.proofs.PenLaws.{text-as}
+use Rattle.text.proofs.PenLaws.{then, text-as}
 use Rattle.refusals.specs.declared.Answer.{Answer}
-use Rattle.refusals.specs.Rules.{answer, accepted, first}
+use Rattle.refusals.specs.Rules.{answer, accepted, isAccepted, first}
 use Rattle.octets.proofs.BoolLaws.{and-both}
 use Rattle.ledger.specs.declared.Ledger.{Ledger}
 use Rattle.ledger.specs.declared.Answered.{Answered}
 use Rattle.ledger.specs.Ledgers.{openRefusals, openedOf, rollAfterOpen, closeRefusals, closedOf, rollAfterClose}
+use Rattle.desk.specs.Drafts.{deskAnswer, bufferAfter}
 use Rattle.ledgerbytes.specs.LedgerBytes.{ledgerOf}
 use Rattle.judge.specs.Judging.{tableAfterCase, judgedOf}
 use Rattle.replay.specs.declared.State.{State}
 use Rattle.replay.specs.declared.Ran.{Ran}
-use Rattle.replay.specs.Tape.{Turn, turnOf, runningOn, nothing, brokenTurn, longest, canLend, lends, openOn, openTurn, plantOn, plantLength, plantTurn, rowLaid, rowsLaid, laidBy, canLay, tableTurn, rollTurn, caseOn, caseTurn, freshOn, freshTurn, blockOn, blockTurn, LentWithin, Plays}
+use Rattle.replay.specs.Tape.{Turn, turnOf, runningOn, nothing, brokenTurn, longest, canLend, lends, openOn, openTurn, plantOn, plantLength, plantTurn, rowLaid, rowsLaid, laidBy, canLay, tableTurn, rollTurn, caseOn, caseTurn, deskMost, deskLine, behind, deskOn, canDraft, deskTurn, freshOn, freshTurn, blockOn, blockTurn, LentWithin, Plays}
 
 -- the same turn by another name
 pub plays-as : {u v : Turn} {t r x x′ : List ℕ} {a : Ran} → u ≡ v → Plays u t r x x′ a → Plays v t r x x′ a
@@ -143,15 +144,51 @@ module _ (body t r : List ℕ) (z : State) {b : Bool} where
   unfolding rollTurn
   roll-broken hb left = rw (sym hb ∙ left)
 
--- C
-pub case-plays : (body t r p x x′ : List ℕ) (e : ℕ) (z : State) (a : Answered) (s : State) → LentWithin z t r
-    → a ≡ judgedOf body (take (z .table) t) (take (z .roll) r) (z .ledger) → p ≡ tableAfterCase body (take (z .table) t) (take (z .roll) r) (z .ledger)
-    → length p ≡ length (take (z .table) t) → Wrote 72 (answerAndRow (ascii "case") (a .answer)) (pen x 0) (pen x′ e) → s ≡ runningOn (a .ledger) (z .table) (z .roll)
-    → Plays (caseTurn body t r z) (p ++ drop (z .table) t) r x x′ (record { state = s; end = e })
+-- C and D: a case was judged, and its line stands behind the text y
+pub judged-plays : {b : ℕ} (y body t r t′ x x′ : List ℕ) (e : ℕ) (z : State) (a : Answered) (s : State) → b ≤ longest → LentWithin z t r
+    → a ≡ judgedOf body (take (z .table) t) (take (z .roll) r) (z .ledger)
+    → t′ ≡ tableAfterCase body (take (z .table) t) (take (z .roll) r) (z .ledger) ++ drop (z .table) t → length t′ ≡ length t
+    → Wrote b (y ++ answerAndRow (ascii "case") (a .answer)) (pen x 0) (pen x′ e) → s ≡ runningOn (a .ledger) (z .table) (z .roll)
+    → Plays (behind y (caseTurn body t r z)) t′ r x x′ (record { state = s; end = e })
 unfolding caseTurn caseOn judgedOf
-case-plays body t r p x x′ e z a s h ha hp hk w hs =
-    let v : turnOf (runningOn (a .ledger) (z .table) (z .roll)) (p ++ drop (z .table) t) r (answerAndRow (ascii "case") (a .answer)) ≡ caseTurn body t r z = rw (ha, hp) in
-    plays-as v (plays (omega arith) hs (record { table = still (z .table) p t (hk ∙ length-take-le (z .table) t (h .table)); roll = h .roll }) w)
+judged-plays y body t r t′ x x′ e z a s hb h ha ht hk w hs =
+    let v : turnOf (runningOn (a .ledger) (z .table) (z .roll)) t′ r (y ++ answerAndRow (ascii "case") (a .answer)) ≡ behind y (caseTurn body t r z) = rw (ha, ht) in
+    plays-as v (plays hb hs (record { table = omega (arith, h .table); roll = h .roll }) w)
+
+-- the desk's line alone, and with what was judged behind it
+module _ (d b b′ t r : List ℕ) (z : State) (a : Answer) (ha : a ≡ deskAnswer d (length b)) (hb : b′ ≡ bufferAfter d b) where
+  pub draft-refused : isAccepted a ≡ false → turnOf z t r (deskLine a b′) ≡ deskOn d b t r z
+  unfolding deskOn
+  draft-refused h = rw (hb, sym ha, h)
+
+  pub draft-plays : {t′ x x₁ x′ : List ℕ} {e₁ e : ℕ} {j : Answered} {s : State} → isAccepted a ≡ true → Wrote 112 (deskLine a b′) (pen x 0) (pen x₁ e₁) → LentWithin z t r
+      → j ≡ judgedOf b′ (take (z .table) t) (take (z .roll) r) (z .ledger)
+      → t′ ≡ tableAfterCase b′ (take (z .table) t) (take (z .roll) r) (z .ledger) ++ drop (z .table) t → length t′ ≡ length t
+      → Wrote 72 (answerAndRow (ascii "case") (j .answer)) (pen x₁ e₁) (pen x′ e) → s ≡ runningOn (j .ledger) (z .table) (z .roll)
+      → Plays (deskOn d b t r z) t′ r x x′ (record { state = s; end = e })
+  unfolding deskOn
+  draft-plays {t′ = t′} {x = x} {x′ = x′} {e = e} {j = j} {s = s} ok line h hj ht hk w hs =
+      plays-as (rw (hb, sym ha, ok)) (judged-plays (deskLine a b′) b′ t r t′ x x′ e z j s (omega arith) h hj ht hk (then line w) hs)
+
+-- some of several equal bytes
+pub taken-of : (n m x : ℕ) → n ≤ m → take n (replicate m x) ≡ replicate n x
+taken-of zero m x h = refl
+taken-of (suc n) zero x h = absurd (omega arith)
+taken-of (suc n) (suc m) x h = ap (λ (l : List ℕ). x ∷ l) (taken-of n m x (omega arith))
+
+-- D: a body too short, a buffer too long, and neither
+module _ (body t r : List ℕ) (z : State) where
+  pub desk-short : length body < 4 → brokenTurn t r ≡ deskTurn body t r z
+  unfolding deskTurn canDraft
+  desk-short h = rw (lt-leb 4 (length body) h)
+
+  pub desk-wide : (n : ℕ) → n ≡ little (field 0 4 body) → 4 ≤ length body → deskMost < n → brokenTurn t r ≡ deskTurn body t r z
+  unfolding deskTurn canDraft
+  desk-wide n e h k = rw (le-leb 4 (length body) h, sym e, lt-leb n deskMost k)
+
+  pub desk-drafts : (n : ℕ) → n ≡ little (field 0 4 body) → 4 ≤ length body → n ≤ deskMost → deskOn (drop 4 body) (replicate n 0xa5) t r z ≡ deskTurn body t r z
+  unfolding deskTurn canDraft
+  desk-drafts n e h k = rw (le-leb 4 (length body) h, sym e, le-leb n deskMost k)
 
 -- F and B: a call that changes the roll alone. It left q in the lent part, and u is the turn that it makes
 roll-plays : {b : ℕ} (word t r q x x′ : List ℕ) (e : ℕ) (z : State) (a : Answered) (s : State) (u : Turn) → b ≤ longest → LentWithin z t r

@@ -7,13 +7,17 @@ use mathlib.Core.Path.{_≡_}
 use mathlib.Core.Bool.{Bool, true, false, _&&_, cond}
 use mathlib.Core.List.{List, [], _++_}
 use lib.Dec.{eqb, leb}
-use lib.ListN.{length, take, drop, getD}
+use lib.ListN.{length, take, drop, getD, replicate}
 use Rattle.octets.specs.Numbers.{little, bigBytes}
 use Rattle.octets.specs.Parts.{zeros, field, pasted}
 use Rattle.text.specs.Words.{ascii, nameLine}
-use Rattle.text.specs.Answers.{answerLine, answerAndRow}
+use Rattle.text.specs.Answers.{answerWords, answerLine, answerAndRow}
+use Rattle.text.specs.Hex.{hex}
 use Rattle.text.specs.Pen.{pen, Wrote}
-use Rattle.refusals.specs.Rules.{answer, accepted, first}
+use Rattle.refusals.specs.declared.Answer.{Answer}
+use Rattle.refusals.specs.Rules.{answer, accepted, isAccepted, first}
+use Rattle.sha256.specs.Hash.{sha256Of}
+use Rattle.desk.specs.Drafts.{deskAnswer, bufferAfter}
 use Rattle.ledger.specs.declared.Ledger.{Ledger}
 use Rattle.ledger.specs.Ledgers.{emptyLedger, openRefusals, openedOf, rollAfterOpen, closeRefusals, closedOf, rollAfterClose}
 use Rattle.ledgerbytes.specs.LedgerBytes.{ledgerOf}
@@ -127,6 +131,28 @@ caseOn n m l body t r =
 unfoldable pub caseTurn : List ℕ → List ℕ → List ℕ → State → Turn
 caseTurn body t r s = caseOn (s .table) (s .roll) (s .ledger) body t r
 
+-- D WRITES A CASE from a draft, by the desk, and judges what was written. Body: how many bytes of 0xa5 are lent as the buffer (4), and behind that the draft.
+-- The desk's line has a hash of every byte of the buffer
+abbrev pub deskMost : ℕ
+deskMost = 4352
+
+unfoldable pub deskLine : Answer → List ℕ → List ℕ
+deskLine a b = answerWords (ascii "desk") a ++ ascii " " ++ hex (sha256Of b) ++ ascii "\n"
+
+abbrev pub behind : List ℕ → Turn → Turn
+behind x u = turnOf (u .state) (u .table) (u .roll) (x ++ u .text)
+
+unfoldable pub deskOn : List ℕ → List ℕ → List ℕ → List ℕ → State → Turn
+deskOn d b t r s =
+    cond (isAccepted (deskAnswer d (length b))) (behind (deskLine (deskAnswer d (length b)) (bufferAfter d b)) (caseTurn (bufferAfter d b) t r s))
+    (turnOf s t r (deskLine (deskAnswer d (length b)) (bufferAfter d b)))
+
+unfoldable pub canDraft : List ℕ → Bool
+canDraft body = leb 4 (length body) && leb (little (field 0 4 body)) deskMost
+
+unfoldable pub deskTurn : List ℕ → List ℕ → List ℕ → State → Turn
+deskTurn body t r s = cond (canDraft body) (deskOn (drop 4 body) (replicate (little (field 0 4 body)) 0xa5) t r s) (brokenTurn t r)
+
 -- B CLOSES a block
 unfoldable pub blockOn : ℕ → ℕ → Ledger → List ℕ → List ℕ → Turn
 blockOn n m l t r =
@@ -161,10 +187,11 @@ unfoldable pub entryTurn : ℕ → List ℕ → List ℕ → List ℕ → State 
 entryTurn kind body t r s =
     cond (isKind "O" kind) (openTurn body t r)
     (cond (isKind "C" kind) (caseTurn body t r s)
+    (cond (isKind "D" kind) (deskTurn body t r s)
     (cond (isKind "S" kind) (sealTurn body t r s)
     (cond (isKind "N" kind) (nameTurn body t r s)
     (cond (eqb (length body) 0) (bareTurn kind t r s)
-    (layTurn kind body t r s)))))
+    (layTurn kind body t r s))))))
 
 -- WHAT STANDS NEXT on the tape, whose body was read to the start of the buffer b: at the end nothing is printed
 unfoldable pub nextTurn : Next → List ℕ → List ℕ → List ℕ → State → Turn

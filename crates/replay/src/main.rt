@@ -1,7 +1,7 @@
-// A whole shift from a tape: entries that open, plant, judge and close, read from standard input one
+// A whole shift from a tape: entries that open, plant, write, judge and close, read from standard input one
 // after the other, and a line printed for each. It keeps one ledger and the two buffers lent to it.
 // What an entry leaves and which bytes are printed of it is the contract of `play_next`. What its answer
-// is, is left to `judge`, `ledger` and `seal`.
+// is, is left to `judge`, `desk`, `ledger` and `seal`.
 ghost use mathlib.Core.Path.{_≡_};
 ghost use mathlib.Core.Bool.{false};
 ghost use Prim.Native.Nat.{_+_, _*_, _^_, _<_, _≤_, min};
@@ -12,13 +12,14 @@ ghost use Rattle.refusals.specs.Rules.{first, answer};
 ghost use Rattle.sha256.specs.Hash.{sha256Of};
 ghost use Rattle.tree.specs.Record.{recordRoot};
 ghost use Rattle.ledger.specs.Ledgers.{openRefusals, openedOf, rollAfterOpen, roomIn};
+ghost use Rattle.judge.specs.Judging.{judgedOf, tableAfterCase};
 ghost use Rattle.text.specs.Words.{ascii};
 ghost use Rattle.text.specs.Decimal.{decimal};
 ghost use Rattle.text.specs.Answers.{answerWords, answerLine};
 ghost use Rattle.text.specs.Hex.{hex, hex64};
 ghost use Rattle.text.specs.Pen.{pen, Wrote};
 ghost use Rattle.replay.specs.Looks.{ledgerText, rowLine, rowLines, rowsText, memoryText, pullBits, sealedText, sealText};
-ghost use Rattle.replay.specs.Tape.{nothing as nothingOf, runningOn, canLend, openTurn, plantLength, plantTurn, rowLaid, laidBy, canLay, tableTurn, rollTurn, layTurn, caseTurn, freshTurn, blockTurn, lookTurn, bareTurn, nameTurn, entryTurn, nextTurn, entryLength, longest, LentWithin, Plays};
+ghost use Rattle.replay.specs.Tape.{nothing as nothingOf, runningOn, canLend, openTurn, plantLength, plantTurn, rowLaid, laidBy, canLay, tableTurn, rollTurn, layTurn, caseTurn, deskLine, deskOn, deskTurn, freshTurn, blockTurn, lookTurn, bareTurn, nameTurn, entryTurn, nextTurn, entryLength, longest, LentWithin, Plays};
 use ledger::Answered;
 use ledger::Ledger;
 use libc::STDIN_FILENO;
@@ -388,16 +389,72 @@ fn run_lay(
     broken(out)
 }
 
+// The case that is judged next, on the lent bytes.
+fn judged(body: &[u8], table: &mut [u8], roll: &[u8], state: State) -> Answered
+    requires { ⌜ LentWithin state (now table) (now roll) ⌝ }
+    ensures { λ r. ⌜ r ≡ judgedOf (now (body .entry)) (take (state .table) (now (table .entry))) (take (state .roll) (now (roll .entry))) (state .ledger) ⌝ }
+    ensures { λ _. ⌜ now (table .exit) ≡ tableAfterCase (now (body .entry)) (take (state .table) (now (table .entry))) (take (state .roll) (now (roll .entry))) (state .ledger) ++ drop (state .table) (now (table .entry)) ⌝ }
+{
+    let n = state.table;
+    let m = state.roll;
+    judge::judge(body, &mut table[..n], &roll[..m], state.ledger)
+}
+
 fn run_case(body: &[u8], table: &mut [u8], roll: &[u8], state: State, out: &mut [u8]) -> Ran
     requires { ⌜ LentWithin state (now table) (now roll) ⌝ }
     ensures { λ a. ⌜ Plays (caseTurn (now (body .entry)) (now (table .entry)) (now (roll .entry)) state) (now (table .exit)) (now (roll .entry)) (now (out .entry)) (now (out .exit)) a ⌝ }
 {
-    let n = state.table;
-    let m = state.roll;
-    let a = judge::judge(body, &mut table[..n], &roll[..m], state.ledger);
+    let a = judged(body, table, roll, state);
     let end = text::put_answer_and_row(out, 0, b"case", a.answer);
-    let state = going_on(a.ledger, n, m);
+    let state = going_on(a.ledger, state.table, state.roll);
     Ran { state, end }
+}
+
+// The desk's line: its answer, and a hash of every byte of its buffer.
+fn put_desk(out: &mut [u8], a: Answer, buffer: &[u8]) -> usize
+    ensures { λ r. ⌜ Wrote 112 (deskLine a (now (buffer .entry))) (pen (now (out .entry)) 0) (pen (now (out .exit)) r) ⌝ }
+{
+    let answered = text::put_answer(out, 0, b"desk", a);
+    let hashed = put_hash(out, answered, b" ", buffer);
+    text::put(out, hashed, b"\n")
+}
+
+// What the desk writes is judged; what it refuses is not.
+fn run_draft(
+    draft: &[u8],
+    buffer: &mut [u8],
+    table: &mut [u8],
+    roll: &[u8],
+    state: State,
+    out: &mut [u8],
+) -> Ran
+    requires { ⌜ LentWithin state (now table) (now roll) ⌝ }
+    ensures { λ a. ⌜ Plays (deskOn (now (draft .entry)) (now (buffer .entry)) (now (table .entry)) (now (roll .entry)) state) (now (table .exit)) (now (roll .entry)) (now (out .entry)) (now (out .exit)) a ⌝ }
+{
+    let answer = desk::write(draft, &mut *buffer);
+    let told = put_desk(out, answer, buffer);
+    if !answer.is_accepted() {
+        return Ran { state, end: told };
+    }
+    let a = judged(buffer, table, roll, state);
+    let end = text::put_answer_and_row(out, told, b"case", a.answer);
+    let state = going_on(a.ledger, state.table, state.roll);
+    Ran { state, end }
+}
+
+fn run_desk(body: &[u8], table: &mut [u8], roll: &[u8], state: State, out: &mut [u8]) -> Ran
+    requires { ⌜ LentWithin state (now table) (now roll) ⌝ }
+    ensures { λ a. ⌜ Plays (deskTurn (now (body .entry)) (now (table .entry)) (now (roll .entry)) state) (now (table .exit)) (now (roll .entry)) (now (out .entry)) (now (out .exit)) a ⌝ }
+{
+    if body.len() < 4 {
+        return broken(out);
+    }
+    let n = octets::le32(body, 0) as usize;
+    if 4352 < n {
+        return broken(out);
+    }
+    let mut buffer = [0xa5u8; 4352];
+    run_draft(&body[4..], &mut buffer[..n], table, roll, state, out)
 }
 
 // A fresh ledger on the lent bytes as they stand: entries that look before and after show what it changes.
@@ -489,6 +546,9 @@ fn run(
     }
     if kind == b'C' {
         return run_case(body, table, roll, state, out);
+    }
+    if kind == b'D' {
+        return run_desk(body, table, roll, state, out);
     }
     if kind == b'S' {
         if body.len() == 41 {

@@ -2,15 +2,14 @@
 -- refuses a whole draft, no such file is accepted anywhere.
 -- Assumes nothing.
 use Prim.Native.Nat.{ℕ, _+_, _-_, _<_, _≤_}
-use mathlib.Core.Path.{_≡_, refl, sym, ap, ap₂, _∙_}
+use mathlib.Core.Path.{_≡_, refl, sym, ap, _∙_}
 use mathlib.Core.Logic.{_⊎_, inl, inr, _↔_, ⊎-elim}
-use mathlib.Core.Bool.{Bool, true, false, not, _&&_, cond, false≢true}
-use mathlib.Core.List.{List, [], _∷_, List·Memᴰ, List·Memᴰ·head, List·Memᴰ·not-nil}
+use mathlib.Core.Bool.{Bool, true}
+use mathlib.Core.List.{List, [], _∷_, List·Memᴰ·head, List·Memᴰ·not-nil}
 use native.Mathlib.Decide.{decLe}
 use native.Mathlib.Nat.{lt-of-not-le}
 use native.Mathlib.Omega.{arith}
-use borrow.Author.Tests.{eqb-true, eq-eqb, ne-eqb}
-use lib.Dec.{eqb}
+use borrow.Author.Tests.{eq-eqb, ne-eqb}
 use lib.ListN.{length}
 use lib.Seq.{take-all}
 use Rattle.octets.specs.Parts.{zeros, same}
@@ -20,31 +19,30 @@ use Rattle.octets.proofs.PartLaws.{field-length}
 use Rattle.units.specs.Limits.{maxMoney}
 use Rattle.units.specs.Pairs.{ForBoth}
 use Rattle.refusals.specs.declared.Answer.{Answer}
-use Rattle.refusals.specs.Rules.{Rule, rule, answer, accepted, isAccepted, first, rulesIn, forEach, lower, numbered}
+use Rattle.refusals.specs.Rules.{Rule, rule, answer, accepted, first, rulesIn, forEach, lower, numbered}
 use Rattle.refusals.specs.Sentences.{AnswersBy}
 use Rattle.refusals.proofs.RuleLaws.{by-test}
 use Rattle.refusals.proofs.SentenceLaws.{Tells, tells-equal, tells-below, tells-at-most, tells-above, tells-not, tells-both, tells-either, Agree, done, _&_, answers-by}
 use Rattle.refusals.proofs.TwoTables.{lower-accepts}
-use Rattle.sprout.specs.Hashes.{hasTopBits, addressFrom, nullifierFrom}
+use Rattle.sprout.specs.Hashes.{hasTopBits, addressFrom}
 use Rattle.tree.specs.Record.{freshOf, pathEnd}
 use Rattle.casefile.specs.Layout.{partOf, lengths, description, vpubOld, vpubNew, anchor as anchorField}
-use Rattle.casefile.specs.Fields.{hasLength, vpubOldOf, vpubNewOf, anchorOf, nullifierOf, oldKeyOf, oldAddressOf, oldValueOf, oldRhoOf, oldTrapdoorOf, oldPositionOf, oldPathOf, newValueOf, phiOf}
+use Rattle.casefile.specs.Fields.{hasLength, vpubOldOf, vpubNewOf, anchorOf, nullifierOf, oldKeyOf, oldAddressOf, oldValueOf, oldRhoOf, oldTrapdoorOf, oldPositionOf, oldPathOf}
 use Rattle.casefile.proofs.Editions.{two-lengths}
 use Rattle.statement.specs.CaseRefusals.{bothPublic, aboveMoney, outOfRange, endsElsewhere, unbalanced, rangeOf, straysOf, unbalancedOf, oldCommitmentOf, pathEndOf, hSigOf, no4, no5, no7, no9, no10, no11, caseRefusals}
 use Rattle.statement.proofs.Clauses.{Clauses, accepted-clauses}
 use Rattle.desk.specs.Inputs.{isWorkedOut, isInput, SameInputs}
-use Rattle.desk.specs.Drafts.{withOldNotes, written, oneLength, lengths1, notesRefusals, deskRefusals, deskAnswer, bufferAfter}
+use Rattle.desk.specs.Drafts.{written, oneLength, lengths1, notesRefusals, deskRefusals, deskAnswer, bufferAfter}
 use Rattle.desk.proofs.OneFile.{WorkedOut, one-file}
 use Rattle.desk.proofs.ReadBack.{inputs-back, old-notes-back, kept-nullifiers, kept-addresses, all-right}
 use Rattle.desk.proofs.Answers.{case-answer, refused-1, passed-1, same-desk-answer, same-buffer}
 use Rattle.ledger.specs.declared.Ledger.{Ledger}
-use Rattle.ledger.specs.Ledgers.{mostNullifiers, mostAnchors, roomIn, spentRows, anchorRows}
+use Rattle.ledger.specs.Ledgers.{roomIn, spentRows, anchorRows}
 use Rattle.ledger.specs.Sorted.{rising}
 use Rattle.ledger.proofs.Soundness.{Sound, sound-undamaged}
 use Rattle.judge.specs.Judging.{answerOf}
 use Rattle.judge.proofs.Halves.{ledgersOwn, answer-lower}
-use Rattle.demands.specs.Validity.{IsWhole, Valid}
-use Rattle.demands.specs.Refusals.{OutOfBounds}
+use Rattle.demands.specs.Validity.{IsWhole}
 use Rattle.demands.specs.Desk.{dueNullifier, dueNote, deskSentences, Admits, Acceptable}
 use Rattle.demands.proofs.Demand1.{same-bytes}
 use Rattle.demands.proofs.Demand2.{accepted-valid, admits}

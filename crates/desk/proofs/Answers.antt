@@ -1,16 +1,16 @@
 -- The desk's answer to a draft is what the case that it would write is answered, as far as that needs no ledger; and it depends on the inputs alone.
 -- Assumes nothing.
 use Prim.Native.Nat.{ℕ}
-use mathlib.Core.Path.{_≡_, refl, sym, ap, ap₂, _∙_}
-use mathlib.Core.Bool.{true, false, not, cond, _&&_}
-use mathlib.Core.List.{List, [], _∷_, _++_}
+use mathlib.Core.Path.{_≡_, refl, sym, ap, _∙_}
+use mathlib.Core.Bool.{true, false, not}
+use mathlib.Core.List.{List, [], _∷_}
 use borrow.Author.Tests.{eq-eqb, eqb-true}
 use lib.Dec.{eqb}
 use lib.ListN.{length}
 use Rattle.octets.proofs.BoolLaws.{and-both}
-use Rattle.refusals.specs.Rules.{Rule, answer, isAccepted, first, rulesIn, None}
-use Rattle.refusals.proofs.RuleLaws.{by-test, first-here, none-above, none-behind, rows-append}
-use Rattle.casefile.specs.Fields.{hasLength, vpubOldOf, vpubNewOf, anchorOf, nullifierOf, oldKeyOf, oldAddressOf, oldValueOf, oldRhoOf, oldTrapdoorOf, oldPositionOf, oldPathOf, newValueOf, phiOf}
+use Rattle.refusals.specs.Rules.{Rule, answer, first, rulesIn, None}
+use Rattle.refusals.proofs.RuleLaws.{by-test, none-above, none-behind, rows-append}
+use Rattle.casefile.specs.Fields.{hasLength, vpubOldOf, vpubNewOf, anchorOf, oldKeyOf, oldValueOf, oldRhoOf, oldTrapdoorOf, oldPositionOf, oldPathOf, newValueOf, phiOf}
 use Rattle.statement.specs.CaseRefusals.{no1, no4, no5, no7, no9, no10, no11, no12, no13, no14, no15, no16, rangeOf, oldCommitmentOf, pathEndOf, straysOf, unbalancedOf, differs, nullifierWrong, addressWrong, tagWrong, rhoWrong, commitmentWrong, derivedRefusals, claimRefusals, witnessRefusals, caseRefusals}
 use Rattle.statement.proofs.Clauses.{alike}
 use Rattle.desk.specs.Inputs.{isWorkedOut, isInput, SameInputs}

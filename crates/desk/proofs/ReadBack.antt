@@ -2,23 +2,21 @@
 -- Assumes nothing.
 use Prim.Native.Nat.{ℕ}
 use mathlib.Core.Path.{_≡_, refl, sym, ap, _∙_}
-use mathlib.Core.Bool.{Bool, true, false, cond, not, _&&_, _||_, false≢true}
+use mathlib.Core.Bool.{true, false, cond, not, false≢true}
 use mathlib.Core.List.{List}
 use borrow.Author.Tests.{eqb-true}
 use lib.Dec.{eqb, leb}
 use lib.ListN.{length, getD}
-use Rattle.octets.specs.Numbers.{little}
 use Rattle.octets.proofs.BoolLaws.{and-both}
 use Rattle.units.specs.Pairs.{ForBoth}
 use Rattle.refusals.proofs.RuleLaws.{by-test}
 use Rattle.sha256.proofs.Laws.{compress-length, sha256-length}
-use Rattle.sprout.specs.Hashes.{prefixed, addressFrom, nullifierFrom, macFrom, rhoFrom, commitmentFrom, hSigFrom}
+use Rattle.sprout.specs.Hashes.{prefixed, addressFrom, nullifierFrom, macFrom, rhoFrom, commitmentFrom}
 use Rattle.casefile.specs.Layout.{description, oldNoteLengths, newNoteLengths, lengths, proofLength, partOf, nullifier, commitment, tag, proof, ofOld, ofNew, phi}
 use Rattle.casefile.specs.Fields.{hasLength, seedOf, nullifierOf, commitmentOf, tagOf, transactionKeyOf, oldKeyOf, oldAddressOf, oldRhoOf, newAddressOf, newValueOf, newRhoOf, newTrapdoorOf, phiOf}
 use Rattle.casefile.specs.Writing.{putPart}
 use Rattle.casefile.proofs.LayoutLaws.{as-long}
 use Rattle.casefile.proofs.WritingLaws.{put-part, put-length}
-use Rattle.casefile.proofs.Editions.{either-length}
 use Rattle.statement.specs.CaseRefusals.{hSigOf}
 use Rattle.desk.specs.Inputs.{isWorkedOut, isInput, SameInputs}
 use Rattle.desk.specs.Drafts.{withOld, withOldNotes, withRho, withNew, withNewNotes, written}

@@ -1,8 +1,7 @@
 use Prim.Native.Nat.{ℕ, _≤_}
 use mathlib.Core.Path.{_≡_, refl, sym, ap, _∙_}
-use mathlib.Core.Bool.{false, true, not, cond}
 use mathlib.Core.List.{List, [], _∷_}
-use lib.ListN.{length, length-replicate}
+use lib.ListN.{length}
 use lib.Seq.{length-take-le}
 use borrow.Author.Tests.{not-true, not-false}
 use Rattle.refusals.specs.Rules.{Rule, isAccepted, first, rulesIn, numbered}

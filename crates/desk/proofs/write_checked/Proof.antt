@@ -1,11 +1,9 @@
 use Prim.Native.Nat.{ℕ}
 use mathlib.Core.Path.{_≡_, refl, sym, ap, _∙_}
-use mathlib.Core.Bool.{false, true, cond}
 use mathlib.Core.List.{List}
-use lib.ListN.{length}
 use Rattle.octets.specs.Parts.{pasted}
 use borrow.Author.Tests.{not-true, not-false}
-use Rattle.refusals.specs.Rules.{isAccepted, first, rulesIn}
+use Rattle.refusals.specs.Rules.{first, rulesIn}
 use Rattle.statement.specs.CaseRefusals.{hSigOf}
 use Rattle.desk.specs.Drafts.{withOldNotes, withNewNotes, written, notesRefusals}
 use Rattle.desk.proofs.WrittenLaws.{copied, written-length}

@@ -23,6 +23,9 @@ HERE = Path(__file__).resolve().parent
 SCANNER = HERE.parent / "crates" / "scanner"
 EXPLAINER = HERE.parent / "crates" / "explainer"
 TRAY = HERE.parent / "crates" / "tray"
+WRITER = HERE.parent / "crates" / "writer"
+PACKER = HERE.parent / "crates" / "packer"
+DRAFTS = HERE / "drafts"
 
 MAX_MONEY = 2_100_000_000_000_000
 DEPTH = 29
@@ -813,6 +816,125 @@ def tray():
     return stored, printed + ["tray 50 0"]
 
 
+# ---- Drafts: mint, close, spend ---------------------------------------------------------------
+
+def parents(nodes, empty):
+    """The next level of a tree, where what is missing on the right is an empty subtree."""
+    filled = nodes + [empty] * (len(nodes) % 2)
+    return [compress(left + right) for left, right in zip(filled[::2], filled[1::2])]
+
+
+def root_and_path(leaves, position):
+    """The root over some leaves, and the siblings on the way up from one of them, leaf level first."""
+    nodes, empty, path = leaves, bytes(32), b""
+    for level in range(DEPTH):
+        sibling = (position >> level) ^ 1
+        path += nodes[sibling] if sibling < len(nodes) else empty
+        nodes, empty = parents(nodes, empty), compress(empty + empty)
+    return nodes[0], path
+
+
+def mint_and_spend():
+    """A case that puts 10000 in, and one that spends its first note once the block is closed, in either edition."""
+    mint = case("mint", vpub_old=10000, new=(10000, 0))
+    commitments = [mint[112:144], mint[144:176]]
+    root, path = root_and_path(commitments, 0)
+    at = NEW[FIRST][0]
+    minted = {
+        "a_sk": short_key("mint receiver 1"), "a_pk": mint[at:at + 32], "value": 10000, "rho": mint[at + 40:at + 72],
+        "r": mint[at + 72:at + 104], "position": 0, "path": path,
+    }
+    assert minted["a_pk"] == address(minted["a_sk"])
+    return mint, case("spend", vpub_new=4000, old=[minted, old_note("spend old 2")], new=(6000, 0), anchor=root, edition=SECOND)
+
+
+def fields(file):
+    """Each field of a case, by the name that the form of a draft has for it; None where the desk works it out."""
+    parts = [
+        ("vpub_old", 8), ("vpub_new", 8), ("anchor", 32), (None, 64), (None, 64), ("ephemeral_key", 32), ("seed", 32),
+        (None, 64), ("proof", edition_of(file)), ("ciphertext_1", 601), ("ciphertext_2", 601), ("transaction_key", 32),
+    ]
+    for i in (1, 2):
+        note = [("key", 32), (None, 32), ("value", 8), ("rho", 32), ("r", 32), ("position", 4), ("path", DEPTH * 32)]
+        parts += [(name and f"old_{i}_{name}", size) for name, size in note]
+    for i in (1, 2):
+        note = [("address", 32), ("value", 8), (None, 32), ("r", 32)]
+        parts += [(name and f"new_{i}_{name}", size) for name, size in note]
+    at = 0
+    for name, size in parts + [("phi", 32)]:
+        yield name, file[at:at + size]
+        at += size
+    assert at == len(file)
+
+
+def is_number(name):
+    return name.startswith("vpub") or name.endswith(("value", "position"))
+
+
+def form(file, *comments):
+    """A draft as the text that its holder writes."""
+    lines = [f"# {comment}" for comment in comments] + [""]
+    for name, data in fields(file):
+        if name:
+            value = str(int.from_bytes(data, "little")) if is_number(name) else data.hex()
+            lines.append(f"{name} {value}")
+    return as_text(lines)
+
+
+def draft(file):
+    """The draft as bytes: what is worked out is left zero."""
+    return b"".join(data if name else bytes(len(data)) for name, data in fields(file))
+
+
+def entry(kind, body=b""):
+    return kind + struct.pack("<I", len(body)) + body
+
+
+def written(file):
+    """The tape's entry for a case that the desk writes and the judge accepts, and its lines."""
+    lent = struct.pack("<I", len(file))
+    return entry(b"D", lent + draft(file)), [f"desk 0 0 {hashlib.sha256(file).hexdigest()}", "case 0 0"]
+
+
+def shift(mint, spend):
+    """A tape that mints, closes the block and spends, and its lines."""
+    one, one_lines = written(mint)
+    two, two_lines = written(spend)
+    spent = [commitment for file in (mint, spend) for commitment in (file[112:144], file[144:176])]
+    root = root_and_path(spent, 0)[0].hex()
+    return entry(b"O", struct.pack("<II", 2048, 64)) + one + entry(b"B") + two + entry(b"L"), [
+        "open 0 0",
+        *one_lines,
+        "block 0 0",
+        *two_lines,
+        f"ledger spent 4 leaves 4 anchors 2 pool 6000 root {root}",
+    ]
+
+
+def write_drafts():
+    mint, spend = mint_and_spend()
+    texts = {
+        "mint": form(mint, "Puts 10000 into the pool: a note of 10000 and one of nothing. The old notes have no value."),
+        "spend": form(
+            spend, "Spends the first note of mint.txt once its block is closed: 4000 leave the pool, 6000 stay in a new note.",
+            "The anchor is the tree's root after the mint; the note stands at position 0, and this is its path."),
+    }
+    DRAFTS.mkdir(exist_ok=True)
+    for name, file in (("mint", mint), ("spend", spend)):
+        (DRAFTS / f"{name}.txt").write_text(texts[name])
+        (DRAFTS / f"{name}.case").write_bytes(file)
+    (DRAFTS / "mint.bag").write_bytes(bag(seal(0, 100.0), mint))
+    data, lines = shift(mint, spend)
+    (DRAFTS / "shift.tape").write_bytes(data)
+    (DRAFTS / "shift.txt").write_text(as_text(lines))
+    WRITER.mkdir(exist_ok=True)
+    (WRITER / "stdin").write_text(texts["spend"])
+    (WRITER / "stdout").write_bytes(b"desk 0 0\n" + spend)
+    PACKER.mkdir(exist_ok=True)
+    (PACKER / "stdin").write_bytes(f"between 40 50.5 45.25 {len(mint)} {len(spend)}\n".encode() + mint + spend)
+    (PACKER / "stdout").write_bytes(b"bag 0 0\n" + bag(seal(2, 45.25, 40.0, 50.5), mint, spend))
+
+
 def as_text(lines):
     return "".join(line + "\n" for line in lines)
 
@@ -830,6 +952,7 @@ def main():
     EXPLAINER.mkdir(exist_ok=True)
     (EXPLAINER / "stdin").write_bytes(data)
     (EXPLAINER / "stdout").write_text(as_text(explained))
+    write_drafts()
     data, lines = tray()
     (TRAY / "stdin").write_bytes(data)
     (TRAY / "stdout").write_text(as_text(lines))

@@ -9,11 +9,9 @@ use native.Mathlib.Omega.{arith}
 use borrow.Author.Tests.{ne-eqb, eqb-true, eq-eqb}
 use lib.Dec.{eqb}
 use lib.ListN.{length}
-use Rattle.octets.specs.Parts.{same}
-use Rattle.octets.proofs.PartLaws.{same-eq, same-refl}
 use Rattle.refusals.specs.Rules.{rulesIn, first, numbered}
 use Rattle.refusals.specs.Sentences.{AnswersBy, placesOf, OneOf}
-use Rattle.refusals.proofs.SentenceLaws.{Tells, tells-equal, tells-below, tells-at-most, tells-above, tells-not, tells-both, tells-either, Agree, done, _&_, answers-by}
+use Rattle.refusals.proofs.SentenceLaws.{Tells, tells-equal, tells-below, tells-at-most, tells-above, tells-not, tells-both, tells-either, tells-same, Agree, done, _&_, answers-by}
 use Rattle.sprout.specs.Hashes.{hasTopBits}
 use Rattle.casefile.proofs.Editions.{two-lengths}
 use Rattle.statement.specs.CaseRefusals.{bothPublic, aboveMoney, outOfRange, endsElsewhere, unbalanced, differs, pathEndOf, no1, no4, no5, no7, no9, no10, no11, no12, no13, no14, no15, no16, rangeOf, straysOf, unbalancedOf, nullifierWrong, addressWrong, tagWrong, rhoWrong, commitmentWrong, oldCommitmentOf, hSigOf}
@@ -30,10 +28,7 @@ use Rattle.judge.proofs.Halves.{numbers}
 use Rattle.judge.proofs.Outcomes.{refused-ledger, refused-table}
 use Rattle.demands.specs.Refusals.{Rises, Damaged, caseSentences, allPlaces, closeSentences, openSentences}
 
--- TESTS ON BYTES AND ROWS, and what they tell
-pub same-bytes : {s t : List ℕ} → Tells (same s t) (s ≡ t)
-same-bytes {s} {t} = (same-eq s t, λ e. rw e (same-refl t))
-
+-- TESTS ON ROWS, and what they tell
 a-member : {x : List ℕ} {rows : List (List ℕ)} → Tells (among x rows) (List·Memᴰ x rows)
 a-member {x} {rows} = (among-member x rows, member-among x rows)
 
@@ -73,25 +68,25 @@ module _ (c t r : List ℕ) (l : Ledger) where
       & tells-below
       & tells-below
       & tells-not a-member
-      & same-bytes
+      & tells-same
       & a-member
       & a-member
       & tells-either tells-above tells-at-most
       & tells-either tells-above tells-at-most
       & tells-above
-      & tells-both (tells-not tells-equal) (tells-not same-bytes)
-      & tells-both (tells-not tells-equal) (tells-not same-bytes)
+      & tells-both (tells-not tells-equal) (tells-not tells-same)
+      & tells-both (tells-not tells-equal) (tells-not tells-same)
       & tells-either (tells-not tells-equal) tells-below
-      & tells-not same-bytes
-      & tells-not same-bytes
-      & tells-not same-bytes
-      & tells-not same-bytes
-      & tells-not same-bytes
-      & tells-not same-bytes
-      & tells-not same-bytes
-      & tells-not same-bytes
-      & tells-not same-bytes
-      & tells-not same-bytes
+      & tells-not tells-same
+      & tells-not tells-same
+      & tells-not tells-same
+      & tells-not tells-same
+      & tells-not tells-same
+      & tells-not tells-same
+      & tells-not tells-same
+      & tells-not tells-same
+      & tells-not tells-same
+      & tells-not tells-same
       & tells-either tells-below tells-below
       & done
 

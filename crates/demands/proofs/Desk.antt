@@ -3,7 +3,7 @@
 -- Assumes nothing.
 use Prim.Native.Nat.{ℕ, _+_, _-_, _<_, _≤_}
 use mathlib.Core.Path.{_≡_, refl, sym, ap, _∙_}
-use mathlib.Core.Logic.{_⊎_, inl, inr, _↔_, ⊎-elim}
+use mathlib.Core.Logic.{inl, inr, _↔_, ⊎-elim}
 use mathlib.Core.Bool.{Bool, true}
 use mathlib.Core.List.{List, [], _∷_, List·Memᴰ·head, List·Memᴰ·not-nil}
 use native.Mathlib.Decide.{decLe}
@@ -19,10 +19,10 @@ use Rattle.octets.proofs.PartLaws.{field-length}
 use Rattle.units.specs.Limits.{maxMoney}
 use Rattle.units.specs.Pairs.{ForBoth}
 use Rattle.refusals.specs.declared.Answer.{Answer}
-use Rattle.refusals.specs.Rules.{Rule, rule, answer, accepted, first, rulesIn, forEach, lower, numbered}
+use Rattle.refusals.specs.Rules.{Rule, rule, accepted, first, rulesIn, forEach, lower, numbered}
 use Rattle.refusals.specs.Sentences.{AnswersBy}
 use Rattle.refusals.proofs.RuleLaws.{by-test}
-use Rattle.refusals.proofs.SentenceLaws.{Tells, tells-equal, tells-below, tells-at-most, tells-above, tells-not, tells-both, tells-either, Agree, done, _&_, answers-by}
+use Rattle.refusals.proofs.SentenceLaws.{Tells, tells-equal, tells-below, tells-at-most, tells-above, tells-not, tells-both, tells-either, tells-same, Agree, done, _&_, answers-by}
 use Rattle.refusals.proofs.TwoTables.{lower-accepts}
 use Rattle.sprout.specs.Hashes.{hasTopBits, addressFrom}
 use Rattle.tree.specs.Record.{freshOf, pathEnd}
@@ -44,7 +44,6 @@ use Rattle.judge.specs.Judging.{answerOf}
 use Rattle.judge.proofs.Halves.{ledgersOwn, answer-lower}
 use Rattle.demands.specs.Validity.{IsWhole}
 use Rattle.demands.specs.Desk.{dueNullifier, dueNote, deskSentences, Admits, Acceptable}
-use Rattle.demands.proofs.Demand1.{same-bytes}
 use Rattle.demands.proofs.Demand2.{accepted-valid, admits}
 
 not-less : (a b : ℕ) → (a < b → ⊥) → b ≤ a
@@ -104,12 +103,12 @@ module _ (d : List ℕ) (n : ℕ) where
       & tells-both (tells-not tells-equal) (tells-not tells-equal)
       & tells-below
       & tells-below
-      & same-bytes
+      & tells-same
       & tells-either tells-above tells-at-most
       & tells-either tells-above tells-at-most
       & tells-above
-      & tells-both (tells-not tells-equal) (tells-not same-bytes)
-      & tells-both (tells-not tells-equal) (tells-not same-bytes)
+      & tells-both (tells-not tells-equal) (tells-not tells-same)
+      & tells-both (tells-not tells-equal) (tells-not tells-same)
       & tells-either (tells-not tells-equal) tells-below
       & done
 

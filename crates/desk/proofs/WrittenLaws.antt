@@ -3,7 +3,7 @@
 use Prim.Native.Nat.{ℕ, _≤_}
 use mathlib.Core.Path.{_≡_, refl, sym, ap, _∙_}
 use mathlib.Core.Logic.{⊎-elim}
-use mathlib.Core.Bool.{true, not, _&&_}
+use mathlib.Core.Bool.{Bool, true, false, cond, not, _&&_}
 use mathlib.Core.List.{List, [], append-nil}
 use native.Mathlib.Omega.{arith}
 use borrow.Author.Tests.{eqb-true, not-false}
@@ -54,3 +54,10 @@ unfolding lengths1 oneLength
 passed-lengths d n h =
     let b = and-both (hasLength d) (eqb n (length d)) (not-false (hasLength d && eqb n (length d)) (one-passed (not (hasLength d && eqb n (length d))) 1 0 (λ e. absurd (omega arith)) h)) in
     (eqb-true n (length d) (b .1), ⊎-elim (λ e. omega arith) (λ e. omega arith) (two-lengths d .0 (b .0)))
+
+-- what is written where a test holds, and kept where it does not
+pub is-kept : (t : Bool) (x y : List ℕ) → t ≡ false → y ≡ cond t x y
+is-kept t x y h = rw h
+
+pub is-written : (t : Bool) (x y : List ℕ) → t ≡ true → x ≡ cond t x y
+is-written t x y h = rw h

@@ -8,6 +8,8 @@ use mathlib.Core.List.{List, [], _∷_}
 use native.Mathlib.Nat.{lt-of-not-le}
 use borrow.Author.Tests.{eqb-true, eq-eqb, ltb-true, lt-ltb, le-ltb, leb-true, le-leb}
 use lib.Dec.{eqb, leb, ltb}
+use Rattle.octets.specs.Parts.{same}
+use Rattle.octets.proofs.PartLaws.{same-eq, same-refl}
 use Rattle.refusals.specs.declared.Answer.{Answer}
 use Rattle.refusals.specs.Rules.{Rule, answer, withoutRow, first, None, numbered}
 use Rattle.refusals.specs.Sentences.{Sentence, NoneHolds, FirstHolds, AnswersBy}
@@ -41,6 +43,9 @@ tells-both {a = false} p q = (λ h. absurd (false≢true h), λ x. p .1 (x .0))
 pub tells-either : {a b : Bool} {P Q : Type 0} → Tells a P → Tells b Q → Tells (a || b) (P ⊎ Q)
 tells-either {a = true} p q = (λ h. inl (p .0 refl), λ x. refl)
 tells-either {a = false} p q = (λ h. inr (q .0 h), ⊎-elim (λ x. absurd (false≢true (p .1 x))) (q .1))
+
+pub tells-same : {s t : List ℕ} → Tells (same s t) (s ≡ t)
+tells-same {s} {t} = (same-eq s t, λ e. rw e (same-refl t))
 
 pub tells-true : {b : Bool} → Tells b (b ≡ true)
 tells-true = (λ h. h, λ h. h)

@@ -1,3 +1,4 @@
+-- One return for each refusal, in the order of the numbers: where it is given the table stops there, and where not the table goes on with the rest.
 use mathlib.Core.Path.{_≡_, refl, sym, _∙_}
 use mathlib.Core.List.{[], _∷_}
 use Rattle.refusals.specs.Rules.{first, rulesIn, numbered}

@@ -1,3 +1,4 @@
+-- One return for each refusal of the lengths and the public values, and one for the rest; the table stops or goes on. Where the lengths pass, the local file has the draft's.
 use Prim.Native.Nat.{ℕ, _≤_}
 use mathlib.Core.Path.{_≡_, refl, sym, ap, _∙_}
 use mathlib.Core.List.{List, [], _∷_}
@@ -8,7 +9,7 @@ use Rattle.refusals.specs.Rules.{Rule, isAccepted, first, rulesIn, numbered}
 use Rattle.refusals.proofs.RuleLaws.{stops, goes-on, run-stops, run-goes-on}
 use Rattle.statement.specs.CaseRefusals.{no4, no5}
 use Rattle.desk.specs.Drafts.{withOldNotes, lengths1, notesRefusals, deskRefusals, deskAnswer, bufferAfter}
-use Rattle.desk.proofs.WrittenLaws.{passed-lengths}
+use Rattle.desk.proofs.WrittenLaws.{passed-lengths, is-kept}
 use borrow.Author.Needs.{needs}
 use Rattle.desk.proofs.write.Statement.{statement}
 use Rattle.desk.proofs.write.Tie as tie
@@ -50,14 +51,14 @@ returns c =
     let a = c .before .before .before .before .before .before .args in
     let d = a .draft .now in
     let s = stops (lengths1 d (length (a .buffer .now))) (no4 d ∷ no5 d ∷ notesRefusals d (withOldNotes d)) _ _ (c .before .before .lengths .ensures) (c .before .is-accepted .ensures) (c .if1 .taken) in
-    (s, rw (sym (ap isAccepted s) ∙ sym (c .before .is-accepted .ensures) ∙ not-true _ (c .if1 .taken)) refl)
+    (s, is-kept _ _ _ (sym (ap isAccepted s) ∙ sym (c .before .is-accepted .ensures) ∙ not-true _ (c .if1 .taken)))
 
 returns-2 : tie.Need-returns-2
 unfolding bufferAfter
 returns-2 c =
     let p = c .before .before .before in
     let s = run-stops (no4 (draft p) ∷ no5 (draft p) ∷ []) (asked p) _ _ (c .before .before .public-values .ensures) (c .before .is-accepted2 .ensures) (c .if2 .taken) ∙ sym (rest1 p) in
-    (s, rw (sym (ap isAccepted s) ∙ sym (c .before .is-accepted2 .ensures) ∙ not-true _ (c .if2 .taken)) refl)
+    (s, is-kept _ _ _ (sym (ap isAccepted s) ∙ sym (c .before .is-accepted2 .ensures) ∙ not-true _ (c .if2 .taken)))
 
 array-borrow-prefix-room : tie.Need-array-borrow-prefix-room
 array-borrow-prefix-room c = alike (c .before .before .before) .1

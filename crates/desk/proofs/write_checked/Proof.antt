@@ -1,12 +1,13 @@
+-- The file holds the draft, then the draft with its old notes worked out, which are asked, then the case; the last copy puts that over the whole buffer.
 use Prim.Native.Nat.{ℕ}
-use mathlib.Core.Path.{_≡_, refl, sym, ap, _∙_}
+use mathlib.Core.Path.{_≡_, sym, ap, _∙_}
 use mathlib.Core.List.{List}
 use Rattle.octets.specs.Parts.{pasted}
 use borrow.Author.Tests.{not-true, not-false}
 use Rattle.refusals.specs.Rules.{first, rulesIn}
 use Rattle.statement.specs.CaseRefusals.{hSigOf}
 use Rattle.desk.specs.Drafts.{withOldNotes, withNewNotes, written, notesRefusals}
-use Rattle.desk.proofs.WrittenLaws.{copied, written-length}
+use Rattle.desk.proofs.WrittenLaws.{copied, written-length, is-kept, is-written}
 use borrow.Author.Needs.{needs}
 use Rattle.desk.proofs.write_checked.Statement.{statement}
 use Rattle.desk.proofs.write_checked.Tie as tie
@@ -30,7 +31,7 @@ module _ (c : tie.After-notes) where
 returns : tie.Need-returns
 returns c =
     let a = c .before .before in
-    (asked a, rw (sym (c .before .is-accepted .ensures) ∙ not-true _ (c .if1 .taken)) refl)
+    (asked a, is-kept _ _ _ (sym (c .before .is-accepted .ensures) ∙ not-true _ (c .if1 .taken)))
 
 returns-2 : tie.Need-returns-2
 unfolding written
@@ -45,7 +46,7 @@ returns-2 c =
     let here = won .work-out-old-notes .ensures ∙ ap withOldNotes (copy .copy-in .ensures .1 ∙ copied d (Start a .args .file .now) (sym (Start a .pre .0))) in
     let there = won2 .work-out-new-notes .ensures ∙ ap (λ (f : List ℕ). withNewNotes (hSigOf f) f) here in
     let b = sym (else .before .is-accepted .ensures) ∙ not-false _ (else .if1 .left) in
-    (asked a, copy2 .copy-in2 .ensures .1 ∙ ap (λ (f : List ℕ). pasted 0 f (Start a .args .buffer .now)) there ∙ copied (written d) _ (written-length d ∙ sym (Start a .pre .1)) ∙ rw b refl)
+    (asked a, copy2 .copy-in2 .ensures .1 ∙ ap (λ (f : List ℕ). pasted 0 f (Start a .args .buffer .now)) there ∙ copied (written d) _ (written-length d ∙ sym (Start a .pre .1)) ∙ is-written _ _ _ b)
 
 pub write-checked-spec : {M : Type 1} → statement M
 write-checked-spec =

@@ -1,5 +1,5 @@
 /*
- * Snaldrek: judges disclosures of Sprout spends, for the firmware of sealed-bag scanners.
+ * Snaldrek: judges disclosures of Sprout spends, and writes them, for the firmware of sealed-bag scanners.
  *
  * Link libsnaldrek.a (x86-64, System V calling convention). It needs nothing but memcpy and memset,
  * takes no memory of its own, makes no system call and never ends the program.
@@ -96,7 +96,8 @@ enum snaldrek_number {
     SNALDREK_ACCEPTED = 0,
 
     /* of a case, in the order in which they are looked for */
-    SNALDREK_WRONG_LENGTH = 1,          /* of neither edition's length; opening: the roll has no row */
+    SNALDREK_WRONG_LENGTH = 1,          /* of neither edition's length; writing a case: or the buffer is not as
+                                           long as the draft; opening: the roll has no row */
     SNALDREK_LEDGER_DAMAGED = 2,        /* the ledger's bytes cannot have come from these calls */
     SNALDREK_NO_FREE_ROW = 3,           /* fewer than two table rows; closing: no roll row */
     SNALDREK_BOTH_PUBLIC_VALUES = 4,    /* one of the two must be zero */
@@ -174,6 +175,20 @@ uint32_t snaldrek_root(const uint8_t *ledger, size_t ledger_len, uint8_t *root, 
 /* Writes the SHA-256 of any bytes.
    51 6: the digest's length. */
 uint32_t snaldrek_hash(const uint8_t *bytes, size_t bytes_len, uint8_t *digest, size_t digest_len);
+
+/* ---- The desk ---- */
+
+/* Writes the whole case of a draft, which has all that its holder chooses, into the buffer. A draft lies as a case
+   file of either edition does (docs/FORMATS.md), and the case is of the same edition. Ten fields of 32 bytes are
+   worked out and put in: both nullifiers, commitments and tags, a_pk of the old notes and rho of the new ones. What
+   the draft has there is not read. All its other bytes come into the case as they are. Draft and buffer must not
+   overlap, so a draft cannot be made the case in its own place.
+   1: the draft is of neither edition's length, or the buffer is not as long as the draft. Then 4, 5, 7 (for which the
+   top four bits of a key are dropped), 9, 10 and 11 of the case that would be written, the first that applies, with
+   their places. On any of them no byte of the buffer is written.
+   No ledger is asked: the case is accepted by each that is not damaged and has room, the anchor on its roll, neither
+   nullifier in its table, and a pool that stays in its bounds. */
+uint32_t snaldrek_write_case(const uint8_t *draft, size_t draft_len, uint8_t *buffer, size_t buffer_len);
 
 /* ---- A bag ---- */
 

@@ -9,6 +9,7 @@ use lib.Dec.{eqb}
 use lib.ListN.{length}
 use Rattle.octets.proofs.BoolLaws.{and-both}
 use Rattle.refusals.specs.Rules.{Rule, answer, first, rulesIn, None}
+use Rattle.refusals.proofs.AnswerRows.{withoutRows, no-row}
 use Rattle.refusals.proofs.RuleLaws.{by-test, none-above, none-behind, rows-append}
 use Rattle.casefile.specs.Fields.{hasLength, vpubOldOf, vpubNewOf, anchorOf, oldKeyOf, oldValueOf, oldRhoOf, oldTrapdoorOf, oldPositionOf, oldPathOf, newValueOf, phiOf}
 use Rattle.statement.specs.CaseRefusals.{no1, no4, no5, no7, no9, no10, no11, no12, no13, no14, no15, no16, rangeOf, oldCommitmentOf, pathEndOf, straysOf, unbalancedOf, differs, nullifierWrong, addressWrong, tagWrong, rhoWrong, commitmentWrong, derivedRefusals, claimRefusals, witnessRefusals, caseRefusals}
@@ -153,3 +154,8 @@ module _ (d e : List ℕ) (agree : SameInputs d e) where
       by-test (oneLength d (length b))
       (λ h. rw (same-desk-answer (length b), same-case (passed-1 d (length b) h .0)))
       (λ h. rw (refused-1 d (length b) h, refused-1 e (length b) (sym (same-lengths (length b)) ∙ h)))
+
+-- no answer of the desk's tells a row
+pub tells-no-row : (d : List ℕ) (n : ℕ) → deskAnswer d n .row .0 ≡ 0
+unfolding deskAnswer deskRefusals notesRefusals lengths1 rulesIn withoutRows no4 no5 no7 no9 no10 no11
+tells-no-row d n = no-row (rulesIn (deskRefusals d n)) refl

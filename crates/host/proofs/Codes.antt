@@ -1,6 +1,6 @@
 -- AN ANSWER AS ONE NUMBER loses nothing. Number, place and row can be read from it, so that two answers with one code are the same answer; and the answer of
 -- each C function, and each in a report, has room in it: the row of a spent nullifier is below 65,536. The day list takes what a case was answered, and keeps
--- number and place. By the first demand's list of refusals, and over a bag's cases by induction.
+-- number and place. By the lists of refusals of the first demand and of the desk, and over a bag's cases by induction.
 -- Assumes nothing.
 use Prim.Native.Nat.{ℕ, zero, suc, _-_, _/_, _%_, _^_, _<_}
 use mathlib.Core.Path.{_≡_, refl, sym, ap, _∙_}
@@ -16,13 +16,17 @@ use Rattle.refusals.specs.declared.Answer.{Answer}
 use Rattle.refusals.specs.Rules.{answerInRow, answer, notGiven, isAccepted, first, rulesIn}
 use Rattle.refusals.specs.Sentences.{Sentence, FirstHolds, AnswersBy, placesOf}
 use Rattle.refusals.proofs.RuleLaws.{by-test}
+use Rattle.desk.specs.Drafts.{deskAnswer}
+use Rattle.desk.proofs.Answers.{tells-no-row}
 use Rattle.ledger.specs.declared.Ledger.{Ledger}
 use Rattle.ledger.specs.Ledgers.{mostAnchors, roomIn, damaged, no2, closeRefusals, openRefusals}
 use Rattle.ledgerbytes.specs.LedgerBytes.{isWhole, ledgerOf}
 use Rattle.judge.specs.Judging.{answerOf}
 use Rattle.judge.proofs.SpentRow.{other-rows, row-within}
 use Rattle.demands.specs.Refusals.{caseSentences, allPlaces}
+use Rattle.demands.specs.Desk.{deskSentences}
 use Rattle.demands.proofs.Demand1.{case-answered, one-place}
+use Rattle.demands.proofs.Desk.{desk-answered}
 use Rattle.seal.specs.declared.Calibration.{Calibration}
 use Rattle.seal.specs.declared.Read.{Read}
 use Rattle.seal.specs.declared.Read.the-variants.{Seal, Broken}
@@ -170,6 +174,16 @@ case-fits c t r l =
 pub judge-fits : (c s t r : List ℕ) → FitsCode (judgeAnswer c s t r)
 unfolding judgeAnswer
 judge-fits c s t r = one-of (isWhole s) _ _ (case-fits c t r (ledgerOf s)) (misfit 1 (omega arith))
+
+-- A DRAFT: nor are any of the desk's, and it tells no row
+draft-low : (d : List ℕ) (n : ℕ) → low (placesOf (deskSentences d n)) ≡ true
+unfolding low placesOf deskSentences
+draft-low d n = refl
+
+pub write-fits : (d : List ℕ) (n : ℕ) → FitsCode (deskAnswer d n)
+write-fits d n =
+    let h = answered-low (deskSentences d n) (deskAnswer d n) (draft-low d n) (desk-answered d n) in
+    record { number = h .0; place = h .1; row = omega (arith, tells-no-row d n) }
 
 -- A REPORT: each of a bag's cases, and what stands for those that it does not have
 unfoldable pub EachFits : List Answer → Type 0

@@ -45,6 +45,12 @@ mod header {
             digest: *mut u8,
             digest_len: usize,
         ) -> u32;
+        pub fn snaldrek_write_case(
+            draft: *const u8,
+            draft_len: usize,
+            buffer: *mut u8,
+            buffer_len: usize,
+        ) -> u32;
         pub fn snaldrek_seal(
             body: *const u8,
             body_len: usize,
@@ -152,6 +158,21 @@ pub fn hash(bytes: &[u8], digest: &mut [u8]) -> u32 {
             bytes.len(),
             digest.as_mut_ptr(),
             digest.len(),
+        )
+    }
+}
+
+/// `snaldrek_write_case`: a draft lies as a case file does, and what is worked
+/// out is not read in it. [`Draft`](crate::Draft) has its fields by name.
+pub fn write_case(draft: &[u8], buffer: &mut [u8]) -> u32 {
+    // SAFETY: both pointers come with the length of the slice they are of; the
+    // one that is written to is of a `&mut` slice.
+    unsafe {
+        header::snaldrek_write_case(
+            draft.as_ptr(),
+            draft.len(),
+            buffer.as_mut_ptr(),
+            buffer.len(),
         )
     }
 }

@@ -1,13 +1,15 @@
 //! The proved judge of disclosed Sprout JoinSplits, for Rust.
 //!
 //! A scanner opens a [`Ledger`], judges bags or single cases on it, closes
-//! blocks, and keeps the shift's books in a [`Tally`] and a [`DayList`]. What
-//! is refused is refused with a [`Refusal`], and has changed nothing.
+//! blocks, and keeps the shift's books in a [`Tally`] and a [`DayList`]. Whoever
+//! prepares a case fills in a [`Draft`] and has it written. What is refused is
+//! refused with a [`Refusal`], and has changed nothing.
 //!
 //! Nothing here judges: the library does, and this crate lends it memory and
 //! reads its answers. Those who keep a ledger in memory of their own call
 //! [`calls`], which is the C header over slices. Without the feature `alloc`
-//! these, the [`Tally`], the seal and a case's [`Edition`] are all there is.
+//! these, the [`Tally`], the seal, a [`Draft`] and a case's [`Edition`] are all
+//! there is.
 //!
 //! ```
 //! use snaldrek::{judge_seal, Calibration, Ledger, Refusal};
@@ -29,6 +31,7 @@ extern crate alloc;
 
 mod books;
 pub mod calls;
+mod draft;
 mod edition;
 #[cfg(feature = "alloc")]
 mod ledger;
@@ -38,6 +41,7 @@ mod seal;
 pub use books::Tally;
 #[cfg(feature = "alloc")]
 pub use books::{DayAnswer, DayList, DayRow};
+pub use draft::{Draft, NewNote, OldNote, Proof};
 pub use edition::{Edition, MAX_CASE_BYTES};
 #[cfg(feature = "alloc")]
 pub use ledger::{

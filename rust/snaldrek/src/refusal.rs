@@ -64,8 +64,9 @@ impl TableRow {
 #[derive(Clone, Copy, Debug, PartialEq, Eq, PartialOrd, Ord, Hash)]
 #[non_exhaustive]
 pub enum Refusal {
-    /// 1: of a case, which is of neither [`Edition`](crate::Edition); of a fresh
-    /// ledger, whose roll has no row.
+    /// 1: of a case, which is of neither [`Edition`](crate::Edition); of a draft,
+    /// which is of neither, or whose buffer is not as long; of a fresh ledger, whose
+    /// roll has no row.
     WrongLength,
     /// 2.
     LedgerDamaged,
@@ -329,7 +330,7 @@ impl Buffer {
 /// of 1 and 3 also say what they mean where no case was judged.
 #[rustfmt::skip]
 const WORDS: [(u8, u8, &str); 41] = [
-    (1, 0, "the case is neither 4,210 nor 4,106 bytes long (opening: the roll has no row)"),
+    (1, 0, "the case is neither 4,210 nor 4,106 bytes long (writing a case: or the buffer is not as long as the draft; opening: the roll has no row)"),
     (2, 0, "the ledger is damaged"),
     (3, 0, "fewer than two nullifier rows are free (closing: no roll row is)"),
     (4, 0, "both public values are nonzero"),

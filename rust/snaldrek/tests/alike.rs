@@ -10,19 +10,21 @@ use second::ledger::Ledger as PlainLedger;
 use second::maker::make_tape;
 use second::random::Random;
 use second::seal::{judge_seal as plain_judge_seal, Calibration as PlainCalibration, Seal};
-use second::tape::Player;
+use second::tape::{ask_desk, Player, LENT_BYTE};
 use snaldrek::{calls, judge_seal, Answer, Calibration, Edition, Ledger, Refusal, LEDGER_BYTES};
 
 const ENTRIES: usize = 700;
 
 /// Both judges' ledgers, how many cases they have judged, how many of these in
-/// a large table, how many of each edition were accepted, and the dice.
+/// a large table, how many of each edition were accepted, how many drafts were
+/// refused and written, and the dice.
 struct Pair {
     ours: Ledger,
     theirs: PlainLedger,
     cases: usize,
     large: usize,
     accepted: [usize; 2],
+    drafts: [usize; 2],
     random: Random,
 }
 
@@ -32,9 +34,11 @@ impl Pair {
         match kind {
             b'O' => self.open(body),
             b'F' => self.open_as_lent(),
-            b'C' => {
-                self.judge_damaged(body);
-                self.judge(body);
+            b'C' => self.judge_twice(body),
+            b'D' => {
+                if let Some(file) = self.write(body) {
+                    self.judge_twice(&file);
+                }
             }
             b'B' => self.close(),
             b'S' => play_seal(body),
@@ -65,6 +69,24 @@ impl Pair {
         );
         self.ours = Ledger::from_parts(bytes, table, roll);
         self.theirs = theirs;
+    }
+
+    /// Has both desks write the case of a draft: the same answer, and the same bytes
+    /// in the whole buffer. Gives what they wrote.
+    fn write(&mut self, body: &[u8]) -> Option<Vec<u8>> {
+        let (expected, theirs) = ask_desk(body).expect("a sound entry");
+        let mut ours = vec![LENT_BYTE; theirs.len()];
+        let answer = Refusal::answer(calls::write_case(&body[4..], &mut ours));
+        assert_answer(answer, expected, "a draft");
+        assert!(ours == theirs, "the buffer after a draft");
+        self.drafts[usize::from(answer.is_ok())] += 1;
+        answer.is_ok().then_some(ours)
+    }
+
+    /// With one bit turned over, and as it is.
+    fn judge_twice(&mut self, file: &[u8]) {
+        self.judge_damaged(file);
+        self.judge(file);
     }
 
     fn judge(&mut self, file: &[u8]) {
@@ -155,11 +177,13 @@ fn play_seal(body: &[u8]) {
     }
 }
 
-/// Whether an entry is none. Cases never are, and looks are where they have a
-/// body: neither is played for this, since a large ledger takes long.
+/// Whether an entry is none. Cases never are, drafts are where the desk is not
+/// asked, and looks are where they have a body: none of these is played for this,
+/// since a large ledger takes long.
 fn is_broken(player: &mut Player, kind: u8, body: &[u8]) -> bool {
     match kind {
         b'C' => false,
+        b'D' => ask_desk(body).is_none(),
         b'B' | b'L' | b'R' | b'M' => !body.is_empty(),
         _ => player.play(kind, body).is_none(),
     }
@@ -177,6 +201,7 @@ fn play_tape(seed: u64) -> Pair {
         cases: 0,
         large: 0,
         accepted: [0; 2],
+        drafts: [0; 2],
         random: Random::new(seed),
     };
     for (index, (kind, body)) in entries(&tape.bytes).into_iter().enumerate() {
@@ -195,7 +220,9 @@ fn play_tapes(seeds: std::ops::Range<u64>) {
     let cases: usize = pairs.iter().map(|pair| pair.cases).sum();
     let large: usize = pairs.iter().map(|pair| pair.large).sum();
     let accepted = [0, 1].map(|edition| pairs.iter().map(|pair| pair.accepted[edition]).sum());
+    let drafts = [0, 1].map(|passed| pairs.iter().map(|pair| pair.drafts[passed]).sum());
     println!("{cases} cases judged by both, {large} of them in a large table, {accepted:?} accepted of each edition");
+    println!("{drafts:?} drafts refused and written by both");
     assert!(cases > 1_000, "only {cases} cases were judged");
     assert!(
         large > 50,
@@ -204,6 +231,10 @@ fn play_tapes(seeds: std::ops::Range<u64>) {
     assert!(
         accepted.iter().all(|count: &usize| *count > 100),
         "only {accepted:?} cases of each edition were accepted"
+    );
+    assert!(
+        drafts.iter().all(|count: &usize| *count > 100),
+        "only {drafts:?} drafts were refused and written"
     );
 }
 

@@ -11,7 +11,7 @@ use second::ledger::Ledger as PlainLedger;
 use second::maker::make_tape;
 use second::random::Random;
 use second::seal::{judge_seal, Calibration as PlainCalibration};
-use second::tape::Player;
+use second::tape::{judged_file, Player};
 use snaldrek::{calls, Calibration, LEDGER_BYTES};
 
 /// The second judge's answers of a bag on a ledger: the bag's own, and its
@@ -118,13 +118,17 @@ fn seals(tape: &[(u8, Vec<u8>)]) -> Vec<(Calibration, Vec<u8>)> {
         .collect()
 }
 
-/// Puts each run of cases on a tape into bags, on the ledger before the run.
+/// Puts each run of cases on a tape into bags, on the ledger before the run. What
+/// the desk wrote is a case, too.
 fn bags_of_tape(seed: u64) -> usize {
     let made = make_tape(seed, 700);
     let tape: Vec<(u8, Vec<u8>)> = entries(&made.bytes)
         .into_iter()
         .take(700)
-        .map(|(kind, body)| (kind, body.to_vec()))
+        .map(|(kind, body)| match judged_file(kind, body) {
+            Some(file) => (b'C', file.into_owned()),
+            None => (kind, body.to_vec()),
+        })
         .collect();
     let seals = seals(&tape);
     let mut random = Random::new(seed);

@@ -931,8 +931,8 @@ def write_drafts():
     (WRITER / "stdin").write_text(texts["spend"])
     (WRITER / "stdout").write_bytes(b"desk 0 0\n" + spend)
     PACKER.mkdir(exist_ok=True)
-    (PACKER / "stdin").write_bytes(f"between 40 50.5 45.25 {len(mint)} {len(spend)}\n".encode() + mint + spend)
-    (PACKER / "stdout").write_bytes(b"bag 0 0\n" + bag(seal(2, 45.25, 40.0, 50.5), mint, spend))
+    (PACKER / "stdin").write_bytes(f"between -0.25 100.1 99.9 cases {len(mint)} {len(spend)}\n".encode() + mint + spend)
+    (PACKER / "stdout").write_bytes(b"bag 0 0\n" + bag(seal(2, 99.9, -0.25, 100.1), mint, spend))
 
 
 def as_text(lines):

@@ -1,6 +1,6 @@
 -- AN ANSWER AS ONE NUMBER loses nothing. Number, place and row can be read from it, so that two answers with one code are the same answer; and the answer of
 -- each C function, and each in a report, has room in it: the row of a spent nullifier is below 65,536. The day list takes what a case was answered, and keeps
--- number and place. By the lists of refusals of the first demand and of the desk, and over a bag's cases by induction.
+-- number and place. By the first demand's list of refusals, and over a bag's cases by induction.
 -- Assumes nothing.
 use Prim.Native.Nat.{ℕ, zero, suc, _-_, _/_, _%_, _^_, _<_}
 use mathlib.Core.Path.{_≡_, refl, sym, ap, _∙_}
@@ -16,17 +16,13 @@ use Rattle.refusals.specs.declared.Answer.{Answer}
 use Rattle.refusals.specs.Rules.{answerInRow, answer, notGiven, isAccepted, first, rulesIn}
 use Rattle.refusals.specs.Sentences.{Sentence, FirstHolds, AnswersBy, placesOf}
 use Rattle.refusals.proofs.RuleLaws.{by-test}
-use Rattle.desk.specs.Drafts.{deskAnswer}
-use Rattle.desk.proofs.Answers.{tells-no-row}
 use Rattle.ledger.specs.declared.Ledger.{Ledger}
 use Rattle.ledger.specs.Ledgers.{mostAnchors, roomIn, damaged, no2, closeRefusals, openRefusals}
 use Rattle.ledgerbytes.specs.LedgerBytes.{isWhole, ledgerOf}
 use Rattle.judge.specs.Judging.{answerOf}
 use Rattle.judge.proofs.SpentRow.{other-rows, row-within}
 use Rattle.demands.specs.Refusals.{caseSentences, allPlaces}
-use Rattle.demands.specs.Desk.{deskSentences}
 use Rattle.demands.proofs.Demand1.{case-answered, one-place}
-use Rattle.demands.proofs.Desk.{desk-answered}
 use Rattle.seal.specs.declared.Calibration.{Calibration}
 use Rattle.seal.specs.declared.Read.{Read}
 use Rattle.seal.specs.declared.Read.the-variants.{Seal, Broken}
@@ -141,7 +137,7 @@ bag-fits k b s t r o =
     (misfit 1 (omega arith))
 
 -- A CASE: none of its numbers and places, which the first demand lists, is above 255
-unfoldable low : List Answer → Bool
+unfoldable pub low : List Answer → Bool
 low [] = true
 low (a ∷ rest) = (ltb (a .number) 256 && ltb (a .place) 256) && low rest
 
@@ -153,7 +149,7 @@ held-low (s ∷ ss) n p h (inl x) =
     (rw (← x .1 .0) (ltb-true (s .number) 256 (q .0)), rw (← x .1 .1) (ltb-true (s .place) 256 (q .1)))
 held-low (s ∷ ss) n p h (inr x) = held-low ss n p (and-both (ltb (s .number) 256 && ltb (s .place) 256) (low (placesOf ss)) h .1) (x .1)
 
-answered-low : (ss : List Sentence) (a : Answer) → low (placesOf ss) ≡ true → AnswersBy ss a → (a .number < 256) × (a .place < 256)
+pub answered-low : (ss : List Sentence) (a : Answer) → low (placesOf ss) ≡ true → AnswersBy ss a → (a .number < 256) × (a .place < 256)
 answered-low ss a h b =
     by-test (isAccepted a)
     (λ e. let z = b .passed (b .passed-only (eqb-true (a .number) 0 e)) in rw z (omega arith, omega arith))
@@ -174,16 +170,6 @@ case-fits c t r l =
 pub judge-fits : (c s t r : List ℕ) → FitsCode (judgeAnswer c s t r)
 unfolding judgeAnswer
 judge-fits c s t r = one-of (isWhole s) _ _ (case-fits c t r (ledgerOf s)) (misfit 1 (omega arith))
-
--- A DRAFT: nor are any of the desk's, and it tells no row
-draft-low : (d : List ℕ) (n : ℕ) → low (placesOf (deskSentences d n)) ≡ true
-unfolding low placesOf deskSentences
-draft-low d n = refl
-
-pub write-fits : (d : List ℕ) (n : ℕ) → FitsCode (deskAnswer d n)
-write-fits d n =
-    let h = answered-low (deskSentences d n) (deskAnswer d n) (draft-low d n) (desk-answered d n) in
-    record { number = h .0; place = h .1; row = omega (arith, tells-no-row d n) }
 
 -- A REPORT: each of a bag's cases, and what stands for those that it does not have
 unfoldable pub EachFits : List Answer → Type 0

@@ -5,13 +5,11 @@ use Prim.Native.Nat.{ℕ}
 use mathlib.Core.Path.{_≡_, refl, sym, ap, _∙_}
 use mathlib.Core.Bool.{true, false, _&&_, true≢false}
 use mathlib.Core.List.{List}
-use lib.ListN.{length}
 use Rattle.octets.specs.Parts.{Bytes, zeros}
 use Rattle.octets.specs.Numbers.{littleBytes}
 use Rattle.refusals.specs.Rules.{isAccepted}
 use Rattle.octets.proofs.BoolLaws.{and-both}
 use Rattle.refusals.proofs.RuleLaws.{by-test}
-use Rattle.desk.specs.Drafts.{deskAnswer, bufferAfter}
 use Rattle.seal.specs.declared.Calibration.{Calibration}
 use Rattle.seal.specs.declared.Read.{Read}
 use Rattle.seal.specs.declared.Read.the-variants.{Seal, Broken}
@@ -77,10 +75,6 @@ root-leaves s o h = rw h
 pub hash-leaves : (m o : List ℕ) → isAccepted (hashAnswer o) ≡ false → hashAfter m o ≡ o
 unfolding hashAfter
 hash-leaves m o h = rw h
-
-pub write-leaves : (d b : List ℕ) → isAccepted (deskAnswer d (length b)) ≡ false → bufferAfter d b ≡ b
-unfolding bufferAfter
-write-leaves d b h = rw h
 
 pub tally-leaves : (b : List ℕ) (a : ℕ) → isAccepted (tallyAnswer b a) ≡ false → tallyAfter b a ≡ b
 unfolding tallyAfter

@@ -3,9 +3,7 @@
 // call to call. Each call leaves the work to the crates below; of the ledger's bytes it reads what is asked
 // for, and writes back what changed.
 ghost use mathlib.Core.Path.{_≡_};
-ghost use lib.ListN.{length};
 ghost use lib.Ieee.{binary64, toBits};
-ghost use Rattle.desk.specs.Drafts.{deskAnswer, bufferAfter};
 ghost use Rattle.seal.specs.Pull.{sealAnswer};
 ghost use Rattle.host.specs.Answers.{codeOf};
 ghost use Rattle.host.specs.Ledgers.{openAnswer, ledgerAfterOpenCall, rollAfterOpenCall, judgeAnswer, ledgerAfterJudgeCall, tableAfterJudgeCall, closeAnswer, ledgerAfterCloseCall, rollAfterCloseCall, rootAnswer, rootAfter, hashAnswer, hashAfter};
@@ -20,7 +18,7 @@ use seal::Read;
 use seal::Sealed;
 
 // An answer as one number: the refusal's own, its place above that, and its row in the upper 16 bits.
-fn code(a: Answer) -> u32
+pub fn code(a: Answer) -> u32
     ensures { λ r. ⌜ r ≡ codeOf a ⌝ }
 {
     let row = a.row;
@@ -105,15 +103,6 @@ pub extern "C" fn snaldrek_proved_hash(bytes: &[u8], digest: &mut [u8]) -> u32
     let sum = sha256::hash(bytes);
     octets::copy_in(digest, 0, &sum);
     code(Answer::accepted())
-}
-
-// Writes the case of a draft into the buffer.
-#[no_mangle]
-pub extern "C" fn snaldrek_proved_write_case(draft: &[u8], buffer: &mut [u8]) -> u32
-    ensures { λ r. ⌜ r ≡ codeOf (deskAnswer (now (draft .entry)) (length (now (buffer .entry)))) ⌝ }
-    ensures { λ _. ⌜ now (buffer .exit) ≡ bufferAfter (now (draft .entry)) (now (buffer .entry)) ⌝ }
-{
-    code(desk::write(draft, buffer))
 }
 
 // A float's bits. Those of a NaN cannot be read, and the definitions have one pattern for it.

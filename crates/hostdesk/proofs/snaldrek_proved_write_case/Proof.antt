@@ -1,7 +1,7 @@
 use mathlib.Core.Path.{_∙_}
 use borrow.Author.Needs.{needs}
-use Rattle.host.proofs.snaldrek_proved_write_case.Statement.{statement}
-use Rattle.host.proofs.snaldrek_proved_write_case.Tie as tie
+use Rattle.hostdesk.proofs.snaldrek_proved_write_case.Statement.{statement}
+use Rattle.hostdesk.proofs.snaldrek_proved_write_case.Tie as tie
 
 returns : tie.Need-returns
 returns c =

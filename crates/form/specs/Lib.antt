@@ -1,0 +1,5 @@
+pub mod Digits
+pub mod Faults
+pub mod Fields
+pub mod Forms
+pub mod Lines

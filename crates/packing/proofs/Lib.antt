@@ -1,0 +1,10 @@
+pub mod BagLaws
+pub mod DecimalLaws
+pub mod Examples
+pub mod FloatLaws
+pub mod Packed
+pub mod SealLaws
+pub mod SizeLaws
+pub mod TextLaws
+pub mod WordLaws
+pub mod VerdictLaws

@@ -1,0 +1,5 @@
+pub mod Words
+pub mod Decimals
+pub mod Seals
+pub mod Bags
+pub mod Packing

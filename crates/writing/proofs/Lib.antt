@@ -1,0 +1,2 @@
+pub mod CaseSays
+pub mod PrintedLaws

@@ -183,6 +183,7 @@ def plain(crate, modules, text):
         text = re.sub(rf"^use {module or '-'}::", f"use crate::{crate}::{module}::", text, flags=re.M)
     text = re.sub(r"^use (?!crate)(\w+)::", r"use crate::\1::", text, flags=re.M)
     text = text.replace("std::num::wrapping_add_u64(", "u64::wrapping_add(")
+    text = re.sub(r"std::num::nearest_u64_to_f64\((.*)\);", r"(\1) as f64;", text)
     text = re.sub(r"^(\s*)while (.*) \{$", r"\1while crate::turn() && (\2) {", text, flags=re.M)
     text = text.replace('extern "C" ', "").replace("#[no_mangle]", "")
     text = re.sub(r"^(\s*)(?:pub )?(struct|enum|fn|const|mod) ", r"\1pub \2 ", text, flags=re.M)

@@ -67,6 +67,7 @@ fn behind<'a>(s: &'a [u8], x: u8) -> &'a [u8]
 
 // Word k of a line.
 fn word<'a>(line: &'a [u8], k: usize) -> &'a [u8]
+    requires { ⌜ k ≤ 12 ⌝ }
     ensures { λ r. ⌜ now r ≡ wordOf k (now (line .entry)) ⌝ }
 {
     let mut start = 0;
@@ -257,6 +258,7 @@ fn put_float(out: &mut [u8], at: usize, w: &[u8]) -> usize
 
 // The limit in word k, which gates from kind k on use; of others zero bytes.
 fn put_limit(out: &mut [u8], at: usize, line: &[u8], kind: usize, k: usize) -> usize
+    requires { ⌜ k ≤ 12 ⌝ }
     ensures { λ r. ⌜ Wrote 8 (limitBytes kind k (now (line .entry))) (pen (now (out .entry)) at) (pen (now (out .exit)) r) ⌝ }
 {
     if kind < k {
@@ -353,6 +355,7 @@ fn named_bytes(line: &[u8], k: usize, n: usize) -> usize
 
 // Whether word k is what it should be: a number in the seal, "cases" behind it, then a length.
 fn is_fit(line: &[u8], kind: usize, k: usize) -> bool
+    requires { ⌜ k ≤ 12 ⌝ }
     requires { ⌜ kind ≤ 2 ⌝ }
     ensures { λ r. ⌜ r ≡ isFit kind k (wordOf k (now (line .entry))) ⌝ }
 {

@@ -79,8 +79,9 @@ fn new_at(case: &[u8], i: Which, inner: usize) -> usize
     behind_proof(case, spot(i, 3674 + inner, 104))
 }
 
-// Whether the file has a case's length, in either edition: no length between the two is a multiple of 104 above the
-// shorter one. Asked in this way, the compiler knows that every field lies within a whole file, and asks no more.
+// Whether the file has a case's length, in either edition: from the shorter length to the longer one, these two alone
+// are a multiple of 104 above the shorter. By the two bounds the compiler sees that a whole file has every field, and
+// leaves out each field's question whether the file has ended.
 pub fn has_length(case: &[u8]) -> bool
     ensures { λ r. ⌜ r ≡ hasLength (now (case .entry)) ⌝ }
 {
@@ -223,9 +224,8 @@ pub fn phi(case: &[u8]) -> [u8; 32]
     octets::part32(case, behind_proof(case, 3882))
 }
 
-// Writing what is worked out from the rest of a case. Each of these puts 32 bytes where the reader of its
+// Writing what the desk works out from the rest of a case. Each of these puts 32 bytes where the reader of its
 // name finds them, and answers whether the file has that place; where it does not, it stays as it is.
-// Nothing calls them yet: the desk, which makes whole cases, will.
 pub fn put_nullifier(case: &mut [u8], i: Which, bytes: &[u8; 32]) -> bool
     ensures { λ r. ⌜ r ≡ hasPlace (nullifierField (numberOf i)) (now (bytes .entry)) (now (case .entry)) ⌝ }
     ensures { λ _. ⌜ now (case .exit) ≡ putPart (nullifierField (numberOf i)) (now (bytes .entry)) (now (case .entry)) ⌝ }

@@ -2,19 +2,21 @@
 //! same memory. Lengths and books, which it knows nothing of, follow plain rules here.
 use second::answer::Answer;
 use second::bag::read_bag;
+use second::desk;
 use second::judge::judge as judge_case;
 use second::ledger::Ledger;
 use second::seal::{judge_seal, Calibration, Seal};
 use second::sha256::sha256;
 use second::tape::{keep_body, read_plant};
 
-use port::host;
+use port::{host, hostdesk};
 
 /// The calls.
 pub struct Calls {
     pub open: fn(&mut [u8], &mut [u8]) -> u32,
     pub judge: fn(&[u8], &mut [u8], &mut [u8], &[u8]) -> u32,
     pub close: fn(&mut [u8], &[u8], &mut [u8]) -> u32,
+    pub write_case: fn(&[u8], &mut [u8]) -> u32,
     pub root: fn(&[u8], &mut [u8]) -> u32,
     pub hash: fn(&[u8], &mut [u8]) -> u32,
     pub seal: fn(&[u8], f64, f64, &mut [u8]) -> u32,
@@ -28,6 +30,7 @@ pub const PORT: Calls = Calls {
     open: host::snaldrek_proved_open,
     judge: host::snaldrek_proved_judge,
     close: host::snaldrek_proved_close,
+    write_case: hostdesk::snaldrek_proved_write_case,
     root: host::snaldrek_proved_root,
     hash: host::snaldrek_proved_hash,
     seal: host::snaldrek_proved_seal,
@@ -37,7 +40,7 @@ pub const PORT: Calls = Calls {
 };
 
 /// The same by the second judge.
-pub const SECOND: Calls = Calls { open, judge, close, root, hash, seal, bag, tally, day };
+pub const SECOND: Calls = Calls { open, judge, close, write_case, root, hash, seal, bag, tally, day };
 
 pub const LEDGER_BYTES: usize = 988;
 
@@ -101,6 +104,10 @@ fn close(ledger: &mut [u8], table: &[u8], roll: &mut [u8]) -> u32 {
     put_back(&kept, ledger);
     roll.copy_from_slice(&kept.roll);
     code(answer)
+}
+
+fn write_case(draft: &[u8], buffer: &mut [u8]) -> u32 {
+    code(desk::write_case(draft, buffer))
 }
 
 fn root(ledger: &[u8], root: &mut [u8]) -> u32 {

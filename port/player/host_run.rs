@@ -121,6 +121,7 @@ impl Run<'_> {
         self.layouts();
         let case = script.good_case();
         self.lengths(case);
+        self.drafts(case);
         self.limits(case);
         self.rows(case);
         self.seals();
@@ -149,6 +150,14 @@ impl Run<'_> {
     fn close(&mut self, m: &mut Memory) {
         let answer = (self.calls.close)(&mut m.ledger, &m.table, &mut m.roll);
         self.tell("close", answer, &[&m.ledger, &m.table, &m.roll]);
+    }
+
+    /// What a buffer of this length holds after it, where the draft is not refused.
+    fn write_case(&mut self, draft: &[u8], length: usize) -> Option<Vec<u8>> {
+        let mut buffer = vec![7; length];
+        let answer = (self.calls.write_case)(draft, &mut buffer);
+        self.tell("write", answer, &[&buffer]);
+        (answer == 0).then_some(buffer)
     }
 
     fn root(&mut self, ledger: &[u8], length: usize) {
@@ -208,6 +217,11 @@ impl Run<'_> {
                     self.bag(&write_bag(&seal[16..], &cases), [0, 8].map(|at| float_at(seal, at)), &mut m.clone());
                     self.judge(body, &mut m);
                 }
+                b'D' => {
+                    if let Some(case) = self.write_case(&body[4..], number_at(body, 0)) {
+                        self.judge(&case, &mut m);
+                    }
+                }
                 b'F' => self.open(&mut m),
                 b'B' => self.close(&mut m),
                 b'L' => self.root(&m.ledger, 32),
@@ -244,6 +258,16 @@ impl Run<'_> {
         }
         for length in 0..case.len() {
             self.judge(&case[..length], &mut sound.clone());
+        }
+    }
+
+    /// Drafts of each edition's length and of lengths beside it, in buffers of all these lengths.
+    fn drafts(&mut self, case: &[u8]) {
+        let lengths = [0, 4_105, 4_106, 4_107, 4_209, 4_210, 4_211];
+        for (long, lent) in lengths.iter().flat_map(|long| lengths.map(|lent| (*long, lent))) {
+            let mut draft = case.to_vec();
+            draft.resize(long, 7);
+            self.write_case(&draft, lent);
         }
     }
 

@@ -16,7 +16,7 @@ pub const MOST_BYTES: usize = 65536;
 const MOST_ROWS: usize = 8;
 
 // A row of the table of contents: what its body is, where it starts, how long it is.
-#[derive(Drop)]
+#[derive(Clone, Copy)]
 struct Entry {
     kind: u8,
     offset: u32,
@@ -25,7 +25,7 @@ struct Entry {
 
 // What scanning a bag gave. An answer that was not given is 255 and 0, which no refusal has, so that none
 // is ever taken for a pass.
-#[derive(Drop)]
+#[derive(Clone, Copy)]
 pub struct Scanned {
     pub layout: Answer,
     pub seal: Answer,

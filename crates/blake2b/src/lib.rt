@@ -344,7 +344,7 @@ pub fn hash32(m: &[u8], personal: &[u8; 16]) -> [u8; 32]
 }
 
 // A digest with zeros behind it; or, of a length that is not allowed, not ok and all zeros.
-#[derive(Drop)]
+#[derive(Clone, Copy)]
 pub struct Digest {
     pub ok: bool,
     pub bytes: [u8; 64],

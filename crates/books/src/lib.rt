@@ -10,7 +10,7 @@ use units::Row;
 // The last number of a count.
 const FULL: u32 = 4294967295;
 
-#[derive(Drop)]
+#[derive(Clone, Copy)]
 pub struct Tally {
     pub seen: u32,
     pub passed: u32,
@@ -18,7 +18,7 @@ pub struct Tally {
 }
 
 // The answer, and the tally as it then stands.
-#[derive(Drop)]
+#[derive(Clone, Copy)]
 pub struct Tallied {
     pub ok: bool,
     pub tally: Tally,
@@ -82,7 +82,7 @@ pub fn count(t: &mut Tally, pass: bool) -> bool
 }
 
 // A row of the day list.
-#[derive(Drop)]
+#[derive(Clone, Copy)]
 pub struct DayRow {
     pub seal: u32,
     pub answer: u8,

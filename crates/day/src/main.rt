@@ -14,14 +14,14 @@ use books::{DayRow, Tallied, Tally};
 use units::Row;
 
 // A list of four rows, and what the last entry was answered.
-#[derive(Drop)]
+#[derive(Clone, Copy)]
 pub struct Page {
     pub ok: bool,
     pub rows: [DayRow; 4],
 }
 
 // An answer of the day, and the row that it is entered in.
-#[derive(Drop)]
+#[derive(Clone, Copy)]
 pub struct Entry {
     pub at: Row,
     pub row: DayRow,

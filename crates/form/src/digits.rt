@@ -6,7 +6,7 @@ ghost use Rattle.form.specs.Digits.{is_within, is_digit, every, number_from, is_
 ghost use Rattle.form.specs.declared.digits.Number.TheVariants.{Of, Not};
 
 // A number, or that the digits say none.
-#[derive(Drop)]
+#[derive(Clone, Copy)]
 enum Number {
     Of(u64),
     Not,

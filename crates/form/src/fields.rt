@@ -15,7 +15,7 @@ use crate::lines::{Stop, put_value, up_to, word};
 
 // What a field's value is: a number of 64 bits, one of 32 bits, so many hexadecimal digits, or the digits of the
 // proof, which has one length in each edition.
-#[derive(Drop)]
+#[derive(Clone, Copy)]
 pub enum Kind {
     Amount,
     Position,
@@ -24,7 +24,7 @@ pub enum Kind {
 }
 
 // How many bytes that are worked out lie before a field, and what its value is.
-#[derive(Drop)]
+#[derive(Clone, Copy)]
 pub struct Shape(pub usize, pub Kind);
 
 pub const COUNT: usize = 28;

@@ -19,7 +19,7 @@ use lines::{Stop, up_to, word};
 
 // What a form gives: a draft and its length; a wrong line, counted from 1, and the field that was expected there,
 // counted from 0; or that the text is too long to be read.
-#[derive(Drop)]
+#[derive(Clone, Copy)]
 pub enum Formed {
     Draft(usize),
     Wrong(usize, usize),

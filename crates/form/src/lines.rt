@@ -6,7 +6,7 @@ ghost use Rattle.text.specs.Pen.{pen, Wrote, Rendered};
 ghost use Rattle.form.specs.Lines.{is_blank, stops_at, up_to, content_of, word_of, ink_of, value_of};
 
 // At what a part of a text stops: a line's end, the mark of a comment, a blank, or what is no blank.
-#[derive(Drop)]
+#[derive(Clone, Copy)]
 pub enum Stop {
     End,
     Mark,

@@ -9,7 +9,7 @@ use tree::Tree;
 use units::{Amount, Row};
 
 // How one row stands to another.
-#[derive(Drop)]
+#[derive(Clone, Copy)]
 pub enum Order {
     Less,
     Equal,
@@ -39,7 +39,7 @@ impl Order {
 }
 
 // What a search finds: the row itself, or the gap that it would fill.
-#[derive(Drop)]
+#[derive(Clone, Copy)]
 pub enum Found {
     At(Row),
     Gap(Row),
@@ -51,7 +51,7 @@ pub const MOST_NULLIFIERS: usize = 65536;
 pub const MOST_ANCHORS: usize = 4096;
 
 // What a ledger keeps beside its table and its roll.
-#[derive(Drop)]
+#[derive(Clone, Copy)]
 pub struct Ledger {
     pub nullifiers: usize,
     pub anchors: usize,
@@ -60,7 +60,7 @@ pub struct Ledger {
 }
 
 // An answer, and the ledger after it.
-#[derive(Drop)]
+#[derive(Clone, Copy)]
 pub struct Answered {
     pub answer: Answer,
     pub ledger: Ledger,

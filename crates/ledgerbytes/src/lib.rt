@@ -13,7 +13,7 @@ use units::Amount;
 pub const LEDGER_LENGTH: usize = 988;
 
 // A ledger without its record's nodes: all that is asked about before a case is entered or a block closed.
-#[derive(Drop)]
+#[derive(Clone, Copy)]
 pub struct Counts {
     pub nullifiers: usize,
     pub anchors: usize,

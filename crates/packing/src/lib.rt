@@ -14,7 +14,7 @@ ghost use Rattle.packing.specs.declared.Packing.TheVariants.{OtherBytes};
 
 // What became of the input: a bag, or what is wrong first. A word is named by its number, counted from 1.
 // Where the cases have other bytes than were named: how many there are, and how many were named.
-#[derive(Drop)]
+#[derive(Clone, Copy)]
 pub enum Packing {
     Packed,
     NoGate,

@@ -8,7 +8,7 @@ use units::Row;
 
 // The number of a refusal and its place, or 0 and 0; and of a nullifier that is refused as spent the row of
 // the table in which it stands. Every other answer has row 0.
-#[derive(Drop)]
+#[derive(Clone, Copy)]
 pub struct Answer {
     pub number: u8,
     pub place: u8,

@@ -26,7 +26,7 @@ use units::Amount;
 
 // What is kept from entry to entry: the ledger, how many bytes of each buffer are lent to it, and
 // whether the run goes on.
-#[derive(Drop)]
+#[derive(Clone, Copy)]
 pub struct State {
     pub on: bool,
     pub ledger: Ledger,
@@ -35,14 +35,14 @@ pub struct State {
 }
 
 // What is kept after an entry, and where its text ends.
-#[derive(Drop)]
+#[derive(Clone, Copy)]
 pub struct Ran {
     pub state: State,
     pub end: usize,
 }
 
 // What comes next on the tape: an entry's kind and its body's length, the end, or no entry.
-#[derive(Drop)]
+#[derive(Clone, Copy)]
 pub enum Next {
     Entry(u8, usize),
     End,

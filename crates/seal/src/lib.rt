@@ -12,14 +12,14 @@ ghost use Rattle.seal.specs.Body.{float_of, unused_limit_set, is_broken, gate_of
 use refusals::Answer;
 
 // What the scanner was set to.
-#[derive(Drop)]
+#[derive(Clone, Copy)]
 pub struct Calibration {
     pub gain: f64,
     pub offset: f64,
 }
 
 // What is asked of a pull. A limit itself passes.
-#[derive(Drop)]
+#[derive(Clone, Copy)]
 pub enum Gate {
     None,
     AtLeast(f64),
@@ -27,7 +27,7 @@ pub enum Gate {
 }
 
 // The judgement of a seal. Only one that passed has a pull to hand out.
-#[derive(Drop)]
+#[derive(Clone, Copy)]
 pub enum Sealed {
     Passed(f64),
     BadLimit,
@@ -36,7 +36,7 @@ pub enum Sealed {
 }
 
 // What a seal's body says: its gate and the raw reading.
-#[derive(Drop)]
+#[derive(Clone, Copy)]
 pub enum Read {
     Seal(Gate, f64),
     Broken,

@@ -9,7 +9,7 @@ ghost use Rattle.sha256.specs.Hash.{padding, blocks, sha256_of};
 ghost use Rattle.sha256.specs.Steps.{rounds_from};
 
 // The eight words that go from block to block.
-#[derive(Drop)]
+#[derive(Clone, Copy)]
 pub struct State {
     pub a: u32,
     pub b: u32,

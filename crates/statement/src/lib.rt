@@ -150,7 +150,7 @@ fn strays(case: &[u8], i: Which) -> bool
 
 // 11. A sum of three amounts can pass what 64 bits hold, so it is kept as two numbers: how many times
 // 2 ^ 32, and the rest.
-#[derive(Drop)]
+#[derive(Clone, Copy)]
 struct Total {
     high: u64,
     low: u64,
@@ -260,7 +260,7 @@ fn commitment_wrong(case: &[u8], i: Which) -> bool
 }
 
 // What a case claims of both of a pair, which is asked in one way.
-#[derive(Drop)]
+#[derive(Clone, Copy)]
 enum Claim {
     Path,
     Nullifier,

@@ -14,7 +14,7 @@ use libc::STDIN_FILENO;
 use refusals::Answer;
 
 // What comes next on the tray: a bag and its length, a name and its length, the end, or nothing whole.
-#[derive(Drop)]
+#[derive(Clone, Copy)]
 pub enum Next {
     Bag(usize),
     Name(usize),

@@ -14,7 +14,7 @@ use units::{Position, TREE_LEAVES};
 // How many leaves there are, and for each level from the leaves to the root a node of 32 bytes. The
 // node of level k waits for its right sibling where bit k of the count is 1; the root of a full tree
 // stands at level 29.
-#[derive(Drop)]
+#[derive(Clone, Copy)]
 pub struct Tree {
     pub leaves: u32,
     pub nodes: [u8; 960],

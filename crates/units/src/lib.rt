@@ -13,19 +13,19 @@ pub const ALL_MONEY: u64 = 2100000000000000;
 pub const TREE_LEAVES: u32 = 536870912;
 
 // An amount in zatoshi.
-#[derive(Drop)]
+#[derive(Clone, Copy)]
 pub struct Amount(u64);
 
 // The number of a leaf of the commitment tree, or of a node of one of its levels.
-#[derive(Drop)]
+#[derive(Clone, Copy)]
 pub struct Position(u32);
 
 // A row of a table, counted from 0.
-#[derive(Drop)]
+#[derive(Clone, Copy)]
 pub struct Row(usize);
 
 // Which of a pair: of the old notes, the new notes, the nullifiers, the commitments.
-#[derive(Drop)]
+#[derive(Clone, Copy)]
 pub enum Which {
     First,
     Second,

@@ -1,0 +1,12 @@
+-- After i turns the array has the first i bytes of the state and zeros behind them; after 32 turns it is full.
+use Rattle.std.proofs.Common.{◌+◌, ◌-◌, ◌≤◌, get_or, refl, zero-add, arith, rules}
+use Rattle.octets.specs.Parts.{listed, field}
+use Rattle.octets.proofs.Filling.{Filled, next, full}
+use Rattle.blake2b.specs.Compression.{bytes_of}
+use Rattle.blake2b.proofs.bytes32.Given as goal
+
+abbrev pub invariant-loop-i : goal.invariant-loop-i
+invariant-loop-i l = (l.i ≤ 32) × Filled (λ k. get_or (bytes_of l.h) (0 + k) 0) 32 l.i l.d
+
+abbrev pub decreases-loop-i : goal.decreases-loop-i
+decreases-loop-i l = 32 - l.i

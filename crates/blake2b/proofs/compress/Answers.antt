@@ -1,0 +1,7 @@
+use Rattle.blake2b.specs.Compression.{F}
+use Rattle.std.proofs.Common.{rules}
+use Rattle.blake2b.proofs.compress.Goals as goal
+
+pub returns : goal.returns
+unfolding F
+returns c = rw (c.feed.ensures, c.rounds.ensures, c.start-v.ensures, c.words-m.ensures)

@@ -1,0 +1,8 @@
+use Rattle.std.proofs.Common.{refl, rules}
+use Rattle.octets.specs.Parts.{listed, field}
+use Rattle.blake2b.specs.Compression.{xored, feed}
+use Rattle.blake2b.proofs.feed.Goals as goal
+
+pub returns : goal.returns
+unfolding feed xored field listed
+returns c = refl

@@ -1,0 +1,7 @@
+use Rattle.blake2b.specs.Compression.{G}
+use Rattle.std.proofs.Common.{rules}
+use Rattle.blake2b.proofs.g.Goals as goal
+
+pub returns : goal.returns
+unfolding G
+returns c = rw (c.half-2.ensures, c.half.ensures)

@@ -1,0 +1,11 @@
+use Rattle.octets.specs.Parts.{listed}
+use Rattle.blake2b.specs.Compression.{iv, xored}
+use Rattle.blake2b.proofs.Starting.{state_start}
+use Rattle.std.proofs.Common.{rules}
+use Rattle.blake2b.proofs.initial.Goals as goal
+
+pub returns : goal.returns
+unfolding iv xored listed
+returns c =
+    let s = c.args in
+    state_start s.length _ _ s.personal.now c.word.ensures c.word-2.ensures

@@ -1,0 +1,12 @@
+use mathlib.Core.Path.{refl, ◌∙◌}
+use Rattle.casefile.specs.Layout.{description, old_note_lengths, new_note_lengths, lengths, total, offset, of_old}
+use Rattle.casefile.specs.Fields.{old_address_of}
+use Rattle.casefile.proofs.Places.{behind_pair, read_behind}
+use borrow.Author.Rules.{rules}
+use Rattle.casefile.proofs.old_address.Goals as goal
+
+pub returns : goal.returns
+unfolding old_address_of description old_note_lengths new_note_lengths lengths total offset
+returns c =
+    let a = c.args in
+    c.part32.ensures ∙ read_behind _ _ 32 a.case.now (behind_pair (λ j. of_old j 1) 1570 1068 32 (refl, refl, refl) (refl, refl, refl) a.i) _ c.old_at.ensures

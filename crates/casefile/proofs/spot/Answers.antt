@@ -1,0 +1,10 @@
+use native.Mathlib.Omega.{arith}
+use borrow.Author.Rules.{rules}
+use Rattle.casefile.proofs.spot.Goals as goal
+
+pub returns-in-Second : goal.returns-in-Second
+returns-in-Second c =
+    record {
+      value = simp c.in-Second.is;
+      upper_bound = omega arith;
+    }

@@ -1,0 +1,7 @@
+use Rattle.nodes.specs.CommitmentTree.{parent_of}
+use borrow.Author.Rules.{rules}
+use Rattle.nodes.proofs.parent.Goals as goal
+
+pub returns : goal.returns
+unfolding parent_of
+returns c = c.compress_halves.ensures

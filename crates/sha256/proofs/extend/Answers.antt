@@ -1,0 +1,7 @@
+use Rattle.sha256.specs.Compression.{next_word}
+use borrow.Author.Rules.{rules}
+use Rattle.sha256.proofs.extend.Goals as goal
+
+pub returns : goal.returns
+unfolding next_word
+returns c = cc

@@ -1,0 +1,7 @@
+use Rattle.sprout.specs.Hashes.{address_from}
+use borrow.Author.Rules.{rules}
+use Rattle.sprout.proofs.address.Goals as goal
+
+pub returns : goal.returns
+unfolding address_from
+returns c = c.prefixed.ensures

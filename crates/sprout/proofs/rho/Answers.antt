@@ -1,0 +1,7 @@
+use Rattle.sprout.specs.Hashes.{rho_from}
+use borrow.Author.Rules.{rules}
+use Rattle.sprout.proofs.rho.Goals as goal
+
+pub returns : goal.returns
+unfolding rho_from
+returns c = cc

@@ -1,0 +1,7 @@
+use Rattle.statement.specs.CaseRefusals.{address_wrong}
+use borrow.Author.Rules.{rules}
+use Rattle.statement.proofs.address_wrong.Goals as goal
+
+pub returns : goal.returns
+unfolding address_wrong
+returns c = cc

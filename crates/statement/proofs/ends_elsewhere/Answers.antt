@@ -1,0 +1,25 @@
+use mathlib.Core.Path.{◌≡◌, sym, ap, ◌∙◌}
+use Prim.Native.Nat.{ℕ}
+use mathlib.Core.Bool.{true, false, not}
+use mathlib.Core.List.{List}
+use lib.Dec.{eqb}
+use Rattle.octets.specs.Parts.{same}
+use Rattle.units.specs.Pairs.{number_of}
+use Rattle.casefile.specs.Fields.{old_value_of}
+use Rattle.statement.specs.CaseRefusals.{ends_elsewhere, differs}
+use borrow.Author.Rules.{rules}
+use Rattle.statement.proofs.ends_elsewhere.Goals as goal
+
+pub returns-then-is_zero : goal.returns-then-is_zero
+unfolding ends_elsewhere
+returns-then-is_zero c =
+    let a = c.args in
+    let e : eqb (old_value_of (number_of a.i) a.case.now) 0 ≡ true = ap (λ (v : ℕ). eqb v 0) (sym c.old_value.ensures) ∙ sym c.is_zero.ensures ∙ c.if-is_zero.true in
+    rw e
+
+pub returns : goal.returns
+unfolding ends_elsewhere differs
+returns c =
+    let a = c.args in
+    let e : eqb (old_value_of (number_of a.i) a.case.now) 0 ≡ false = ap (λ (v : ℕ). eqb v 0) (sym c.old_value.ensures) ∙ sym c.is_zero.ensures ∙ c.if-is_zero.false in
+    rw e (c.differ.ensures ∙ ap (λ (x : List ℕ). not (same a.end.now x)) c.anchor-anchor.ensures)

@@ -1,0 +1,17 @@
+-- After i turns the first i bytes are on the page, each a text of its own of one byte; at the end these are all bytes.
+use Prim.Native.Nat.{ℕ, ◌-◌, ◌*◌, ◌≤◌}
+use mathlib.Core.Path.{◌≡◌, refl, ◌∙◌}
+use mathlib.Core.List.{[], ◌∷◌, flat_map}
+use native.Mathlib.Omega.{arith}
+use lib.ListN.{length, take}
+use lib.Seq.{take_all}
+use Rattle.text.specs.Pen.{pen, Wrote}
+use Rattle.text.proofs.PenLaws.{start, one_more, each_byte, text_as}
+use borrow.Author.Rules.{rules}
+use Rattle.text.proofs.put.Given as goal
+
+abbrev pub invariant-loop-i : goal.invariant-loop-i
+invariant-loop-i l = (l.i ≤ l.i-end) × ((l.i-end ≡ length l.words) × ((length l.out ≡ length l.initial.out) × Wrote (1 * l.i) (flat_map (λ x. x ∷ []) (take l.i l.words)) (pen l.initial.out l.at) (pen l.out l.next)))
+
+abbrev pub decreases-loop-i : goal.decreases-loop-i
+decreases-loop-i l = l.i-end - l.i

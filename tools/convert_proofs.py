@@ -68,7 +68,9 @@ def called(callee):
 
 
 def fold(name):
-    return name.replace("-", "_")
+    """A step's name by its words alone, whatever an earlier respelling made of it."""
+    name = re.sub(r"_lem(?=[0-9]*$)", "", name.replace("-", "_").replace("is_IsLeaf", "is_leaf"))
+    return re.sub(r"_(?=[0-9]+$)", "", name)
 
 
 class Trouble(Exception):
@@ -232,6 +234,8 @@ def turn_body(fn, body, env, keep=False):
             elif path is None:
                 trouble.append(f"the whole context {name} at {env[name]}")
                 out.append(whole[name] + ".before" * len(fields))
+            elif path[0].startswith("if-not-") and path[1:] in (["true"], ["false"]):
+                out.append("(ap not " + root[name] + "." + ".".join(path) + ")")
             else:
                 out.append(root[name] + "." + ".".join(path))
                 if any("?" in p for p in path):
@@ -310,6 +314,22 @@ def turn_helper(fn, text, trouble):
         trouble.append("helper of no context: " + name)
     trouble += [f"helper {name}: {s}" for s in said + more]
     return f"{comment}{mark}{name} : {kind}\n{unfold}{left} ={body}"
+
+
+def with_not(uses, text):
+    """The imports with those that '(ap not e)' needs."""
+    if "(ap not " not in text:
+        return uses
+    uses = list(uses)
+    for module, name in (("mathlib.Core.Path", "ap"), ("mathlib.Core.Bool", "not")):
+        line = next((k for k, u in enumerate(uses) if u.startswith(f"use {module}.{{")), None)
+        if any(re.search(r"[{ ]" + name + r"[,}]", u) for u in uses):
+            continue
+        if line is None:
+            uses.insert(0, f"use {module}.{{{name}}}")
+        else:
+            uses[line] = uses[line][:-1] + f", {name}" + "}"
+    return uses
 
 
 def turn(path, entry, module):
@@ -420,7 +440,7 @@ def turn(path, entry, module):
         places = sorted(set(re.findall(r"PLACE·([\w'-]+)", "\n".join(helpers))))
         helpers = [h.replace("PLACE·", "") for h in helpers]
         named_places = [f"use {module}.{given}.{{{', '.join(places)}}}"] if places else []
-        lines = list(head) + uses + [f"use {module}.{given} as goal"] + named_places + [""]
+        lines = list(head) + with_not(uses, "\n".join(p[1] for p in parts) + "\n".join(helpers)) + [f"use {module}.{given} as goal"] + named_places + [""]
         for helper in helpers:
             lines += [helper, ""]
         for comment, part in parts:

@@ -88,7 +88,7 @@ member_among x [] m = absurd (Memᴰ.not-nil m)
 member_among x (y ∷ l) m = go (member_among x l) (Memᴰ.cases_cons m)
   where
     go : (Memᴰ x l → among x l ≡ true) → (x ≡ y) ⊎ Memᴰ x l → among x (y ∷ l) ≡ true
-    go r (inl e) = rw e (ap (λ (b : Bool). b || among y l) (same_refl y))
+    go r (inl e) = rw e (ap (λ (b : Bool). b || among x l) (same_refl y))
     go r (inr n) = rw (r n) (or-true (same x y))
 
 -- among rows that rise a search finds what is there, and nothing else

@@ -25,4 +25,4 @@ returns c =
     let a = c.args in
     let e : has_top_bits (old_key_of (number_of a.i) a.case.now) ≡ false =
     ap has_top_bits (sym c.old_key-key.ensures) ∙ sym c.has_top_bits.ensures ∙ c.if-has_top_bits.false in
-    rw e (ap not (c.?is_IsLeaf.ensures ∙ ap (λ (p : ℕ). ltb p tree_leaves) c.old_position.ensures) ∙ not_ltb (old_position_of (number_of a.i) a.case.now) tree_leaves)
+    rw e (ap not (c.is_leaf.ensures ∙ ap (λ (p : ℕ). ltb p tree_leaves) c.old_position.ensures) ∙ not_ltb (old_position_of (number_of a.i) a.case.now) tree_leaves)

@@ -11,7 +11,6 @@ use Rattle.statement.specs.CaseRefusals.{unbalanced_of, unbalanced}
 use Rattle.statement.proofs.TestLaws.{same_parts, whole_tells}
 use borrow.Author.Rules.{rules}
 use Rattle.statement.proofs.unbalanced.Goals as goal
-use Rattle.statement.proofs.unbalanced.Goals.{After-sum-made}
 
 abbrev value_in : List ℕ → ℕ
 value_in c = vpub_old_of c + old_value_of 1 c + old_value_of 2 c
@@ -32,27 +31,24 @@ equal c h =
     let e = eq-eqb (value_in c) (value_out c) h in
     rw e
 
--- once both sums are taken
-abbrev case_in : After-sum-made → List ℕ
-case_in c = c.args.case.now
-
-paid : (c : After-sum-made) → c.sum-paid.result.high * 2 ^ 32 + c.sum-paid.result.low ≡ value_in (case_in c)
-paid c = omega arith
-
-made : (c : After-sum-made) → c.sum-made.result.high * 2 ^ 32 + c.sum-made.result.low ≡ value_out (case_in c)
-made c = omega arith
-
-parts : (c : After-sum-made) → value_in (case_in c) ≡ value_out (case_in c) → (c.sum-paid.result.high ≡ c.sum-made.result.high)
-    × (c.sum-paid.result.low ≡ c.sum-made.result.low)
-parts c = same_parts _ _ _ _ _ _ (paid c) (made c) c.sum-paid.ensures.1 c.sum-made.ensures.1
-
 pub returns-then-paid-made : goal.returns-then-paid-made
-returns-then-paid-made c = unequal (case_in c.before.before.before) (λ e. c.if-paid-made.true (parts c.before.before.before e).0)
+returns-then-paid-made c =
+    let case = c.args.case.now in
+    let paid : c.sum-paid.result.high * 2 ^ 32 + c.sum-paid.result.low ≡ value_in case = omega arith in
+    let made : c.sum-made.result.high * 2 ^ 32 + c.sum-made.result.low ≡ value_out case = omega arith in
+    unequal case (λ e. c.if-paid-made.true (same_parts _ _ _ _ _ _ paid made c.sum-paid.ensures.1 c.sum-made.ensures.1 e).0)
 
 pub returns-then-paid-made-2 : goal.returns-then-paid-made-2
-returns-then-paid-made-2 c = unequal (case_in c.before.before.before.before.before.before) (λ e. c.if-paid-made-2.true (parts c.before.before.before.before.before.before e).1)
+returns-then-paid-made-2 c =
+    let case = c.args.case.now in
+    let paid : c.sum-paid.result.high * 2 ^ 32 + c.sum-paid.result.low ≡ value_in case = omega arith in
+    let made : c.sum-made.result.high * 2 ^ 32 + c.sum-made.result.low ≡ value_out case = omega arith in
+    unequal case (λ e. c.if-paid-made-2.true (same_parts _ _ _ _ _ _ paid made c.sum-paid.ensures.1 c.sum-made.ensures.1 e).1)
 
 pub returns : goal.returns
 returns c =
-    let e : value_in (case_in c.before.before.before.before.before.before.before) ≡ value_out (case_in c.before.before.before.before.before.before.before) = omega (arith, paid c.before.before.before.before.before.before.before, made c.before.before.before.before.before.before.before) in
-    whole_tells _ _ _ (paid c.before.before.before.before.before.before.before) c.sum-paid.ensures.1 ∙ equal (case_in c.before.before.before.before.before.before.before) e
+    let case = c.args.case.now in
+    let paid : c.sum-paid.result.high * 2 ^ 32 + c.sum-paid.result.low ≡ value_in case = omega arith in
+    let made : c.sum-made.result.high * 2 ^ 32 + c.sum-made.result.low ≡ value_out case = omega arith in
+    let e : value_in case ≡ value_out case = omega arith in
+    whole_tells _ _ _ paid c.sum-paid.ensures.1 ∙ equal case e

@@ -1,7 +1,6 @@
 use mathlib.Core.Path.{ap, ◌∙◌}
 use lib.Ieee.{binary64, of_bits}
 use Rattle.seal.specs.Body.{float_of}
-use borrow.Author.Rules.{rules}
 use Rattle.seal.proofs.float_at.Goals as goal
 
 pub returns : goal.returns

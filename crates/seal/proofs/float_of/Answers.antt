@@ -2,7 +2,6 @@ use mathlib.Core.Path.{sym}
 use lib.Ieee
 use lib.Ieee.{binary64}
 use Rattle.seal.proofs.Bits.{above_nan, below_no_nan}
-use borrow.Author.Rules.{rules}
 use Rattle.seal.proofs.float_of.Goals as goal
 
 pub returns-then-bits-gt9218868437227405312 : goal.returns-then-bits-gt9218868437227405312

@@ -1,7 +1,6 @@
 use mathlib.Core.Path.{sym}
 use borrow.Author.Tests.{eq-eqb, ne_eqb}
 use Rattle.seal.specs.Body.{gate_of}
-use borrow.Author.Rules.{rules}
 use Rattle.seal.proofs.gate_of.Goals as goal
 
 pub returns-then-kind-eq0 : goal.returns-then-kind-eq0

@@ -1,7 +1,6 @@
 use mathlib.Core.Path.{sym, ◌∙◌}
 use borrow.Author.Tests.{eq-eqb, ne_eqb, lt-ltb, le-ltb}
 use Rattle.seal.specs.Body.{is_broken}
-use borrow.Author.Rules.{rules}
 use Rattle.seal.proofs.is_broken.Goals as goal
 
 pub returns-then-bytes-ne25 : goal.returns-then-bytes-ne25

@@ -1,7 +1,6 @@
 use borrow.Author.Tests.{lt-ltb, le-ltb}
 use Rattle.seal.specs.Body.{unused_limit_set}
 use Rattle.seal.proofs.Zeros.{field_zero}
-use borrow.Author.Rules.{rules}
 use Rattle.seal.proofs.is_unused_limit_set.Goals as goal
 
 pub returns-then-from-kind : goal.returns-then-from-kind

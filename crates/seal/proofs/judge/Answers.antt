@@ -3,7 +3,6 @@ use mathlib.Core.Path.{sym, ap, ◌∙◌}
 use borrow.Author.Tests.{not-true, not-false}
 use Rattle.seal.specs.Pull.{at_gate, judge_of}
 use Rattle.seal.proofs.PullLaws.{bad_limit_lem, not_finite_lem, not_within, passes}
-use borrow.Author.Rules.{rules}
 use Rattle.seal.proofs.judge.Goals as goal
 
 pub returns-then-has_bad_limit : goal.returns-then-has_bad_limit

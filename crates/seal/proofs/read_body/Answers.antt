@@ -1,6 +1,5 @@
 use mathlib.Core.Path.{sym, ◌∙◌}
 use Rattle.seal.specs.Body.{read_of}
-use borrow.Author.Rules.{rules}
 use Rattle.seal.proofs.read_body.Goals as goal
 
 pub returns-then-is_broken : goal.returns-then-is_broken

@@ -1,4 +1,3 @@
-use borrow.Author.Rules.{rules}
 use Rattle.seal.proofs.Sealed.answer.Goals as goal
 
 pub returns-in-BadLimit : goal.returns-in-BadLimit

@@ -267,6 +267,8 @@ class Texts:
                     while j < len(text) and text[j] in " \n":
                         j += 1
                     e = self.context_end(text, j, known)
+                    if e is not None and re.match(r"\.[A-Za-z]", text[e:]):
+                        e = None
                     if e is None and self.helpers[word.group(0)]["inner"]:
                         e = word.end()
                     if e is not None:
@@ -291,6 +293,10 @@ class Texts:
                         else:
                             out.append("c." + ".".join(path))
                         i = p.end()
+                        continue
+                    if word and re.match(r"\s*=\s", text[e:]):
+                        out.append(word.group(0))
+                        i = word.end()
                         continue
                     if text[i] == "(" or word and word.group(0) in known | self.leads:
                         out.append("c")

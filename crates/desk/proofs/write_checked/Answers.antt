@@ -17,7 +17,7 @@ returns-then-not-is_accepted c =
     let draft : List ℕ = c.args.draft.now in
     let asked : c.notes-a.result ≡ first (rules_in (notes_refusals draft (with_old_notes draft))) = c.notes-a.ensures
     ∙ ap (λ (f : List ℕ). first (rules_in (notes_refusals draft f)))
-    (c.work_out_old_notes.ensures ∙ ap with_old_notes (c.copy_in.ensures.dst_after ∙ copied draft.args.file.now (sym c.requires.0))) in
+    (c.work_out_old_notes.ensures ∙ ap with_old_notes (c.copy_in.ensures.dst_after ∙ copied draft c.args.file.now (sym c.requires.0))) in
     record {
       value = asked;
       buffer_after = is_kept _ _ _ (sym c.is_accepted.ensures ∙ not-true _ (ap not c.if-not-is_accepted.true));
@@ -29,7 +29,7 @@ returns c =
     let draft : List ℕ = c.args.draft.now in
     let asked : c.notes-a.result ≡ first (rules_in (notes_refusals draft (with_old_notes draft))) = c.notes-a.ensures
     ∙ ap (λ (f : List ℕ). first (rules_in (notes_refusals draft f)))
-    (c.work_out_old_notes.ensures ∙ ap with_old_notes (c.copy_in.ensures.dst_after ∙ copied draft.args.file.now (sym c.requires.0))) in
+    (c.work_out_old_notes.ensures ∙ ap with_old_notes (c.copy_in.ensures.dst_after ∙ copied draft c.args.file.now (sym c.requires.0))) in
     let d = draft in
     let here = c.work_out_old_notes.ensures ∙ ap with_old_notes (c.copy_in.ensures.dst_after ∙ copied d c.args.file.now (sym c.requires.0)) in
     let there = c.work_out_new_notes.ensures ∙ ap (λ (f : List ℕ). with_new_notes (h_sig_of f) f) here in

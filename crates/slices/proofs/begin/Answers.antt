@@ -49,9 +49,8 @@ returns c =
     steps_in c.take_in.new.judgement ≡ 0 = let a = c.args in
     ap steps_in c.take_in.ensures ∙ taken_steps a.judgement.now (long) a.case.now (whole) in
     let a = c.args in
-    let all = rw (eq-eqb (length a.judgement.now) judgement_length (long), whole)
-    (c.climb.ensures.value ∙ ap (λ (n : ℕ). not_yet (n + 1)) (taken_in), c.climb.ensures.judgement_after ∙ ap (climbed_in 1 0) c.take_in.ensures) in
+    let tested = eq-eqb (length a.judgement.now) judgement_length long in
     record {
-      value = all.0;
-      judgement_after = all.1;
+      value = rw (tested, whole) (c.climb.ensures.value ∙ ap (λ (n : ℕ). not_yet (n + 1)) taken_in);
+      judgement_after = rw (tested, whole) (c.climb.ensures.judgement_after ∙ ap (climbed_in 1 0) c.take_in.ensures);
     }

@@ -2,6 +2,8 @@
 // keeps a ledger in three buffers, its own 988 bytes, its table and its roll; nothing is kept here from
 // call to call. Each call leaves the work to the crates below; of the ledger's bytes it reads what is asked
 // for, and writes back what changed.
+#![tactic(auto)]
+
 ghost use Rattle.std.specs.Prelude.{◌≡◌};
 ghost use Rattle.std.specs.Float.{binary64};
 ghost use Rattle.std.specs.Float.Ieee.{to_bits};

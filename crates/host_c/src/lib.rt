@@ -3,13 +3,10 @@
 #![tactic(auto)]
 
 ghost use Rattle.std.specs.Prelude.{◌≡◌};
-ghost use Rattle.std.specs.Float.{binary64};
-ghost use Rattle.std.specs.Float.Ieee.{to_bits};
-ghost use Rattle.seal.specs.Pull.{seal_answer};
 ghost use Rattle.host.specs.Answers.{code_of};
 ghost use Rattle.host.specs.Ledgers.{open_answer, ledger_after_open_call, roll_after_open_call, judge_answer, ledger_after_judge_call, table_after_judge_call, close_answer, ledger_after_close_call, roll_after_close_call, root_answer, root_after, hash_answer, hash_after};
-ghost use Rattle.host.specs.Bags.{handed, body_answer, pull_after, own_answer, bag_answer, ledger_after_bag_call, table_after_bag_call, answers_of, report_of, report_after_bag_call};
-ghost use Rattle.host.specs.Books.{is_answer, tally_in, tally_bytes, tally_answer, tally_after, day_row, day_answer, day_after};
+ghost use Rattle.host.specs.Bags.{body_answer, pull_after, bag_answer, ledger_after_bag_call, table_after_bag_call, report_after_bag_call};
+ghost use Rattle.host.specs.Books.{tally_answer, tally_after, day_answer, day_after};
 
 // Opens a fresh ledger. The table needs no byte of its own.
 #[unsafe(no_mangle)]

@@ -1,5 +1,7 @@
 // The C function by which a host has a case written, reached by way of entry/calls.c. It stands apart from `host`, and
 // so in an object file of its own: the compiler makes the judge's code as if there were no desk beside it.
+#![tactic(auto)]
+
 ghost use Rattle.std.specs.Prelude.{◌≡◌, length};
 ghost use Rattle.desk.specs.Drafts.{desk_answer, buffer_after};
 ghost use Rattle.host.specs.Answers.{code_of};

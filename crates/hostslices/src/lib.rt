@@ -1,5 +1,7 @@
 // The C functions by which a host judges a case in steps, reached by way of entry/calls.c. They stand apart from `host`,
 // and so in an object file of their own: the compiler makes the judge's code as if there were no steps beside it.
+#![tactic(auto)]
+
 ghost use Rattle.std.specs.Prelude.{◌≡◌};
 ghost use Rattle.host.specs.Answers.{code_of};
 ghost use Rattle.hostslices.specs.StepCalls.{begin_call_answer, record_after_begin_call, step_call_answer, record_after_step_call, ledger_after_step_call, table_after_step_call};

@@ -1,16 +1,9 @@
 -- After i turns the buffer begins with the four bytes of each of the first i answers; after seven turns nothing is left behind them.
-use Prim.Native.Nat.{ℕ, ◌+◌, ◌-◌, ◌*◌, ◌≤◌, ◌<◌}
-use mathlib.Core.List.{List, ◌++◌}
-use mathlib.Core.Path.{◌≡◌, refl, ap, ◌∙◌}
-use native.Mathlib.Omega.{arith}
+use Prim.Native.Nat.{◌-◌, ◌*◌, ◌≤◌}
+use mathlib.Core.Path.{◌≡◌}
 use lib.ListN.{length, take}
-use lib.Seq.{take_all}
-use Rattle.octets.specs.Numbers.{little_bytes}
-use Rattle.octets.proofs.NumberLaws.{little_bytes_length}
-use Rattle.octets.proofs.Joining.{Laid, start, next, laid_as, done}
+use Rattle.octets.proofs.Joining.{Laid}
 use Rattle.host.specs.Bags.{answers_of}
-use Rattle.host.proofs.Reports.{one_more}
-use borrow.Author.Rules.{rules}
 use Rattle.host.proofs.answer_bytes.Given as goal
 
 abbrev pub invariant-loop-i : goal.invariant-loop-i

@@ -3,7 +3,6 @@ use lib.Dec.{T}
 use lib.Ieee.{binary64, to_bits}
 use lib.Ieee.Compare.{differs_from_itself}
 use Rattle.seal.proofs.Bits.{same_no_nan}
-use borrow.Author.Rules.{rules}
 use Rattle.host.proofs.bits_of.Goals as goal
 
 pub returns-then-x : goal.returns-then-x

@@ -4,7 +4,6 @@ use lib.ListN.{length}
 use Rattle.octets.proofs.NumberLaws.{little_bytes_length, little_bytes_mod}
 use Rattle.octets.proofs.Joining.{start, next, done}
 use Rattle.host.specs.Books.{day_row}
-use borrow.Author.Rules.{rules}
 use Rattle.host.proofs.day_row.Goals as goal
 
 pub returns : goal.returns

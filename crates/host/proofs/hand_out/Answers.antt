@@ -2,7 +2,6 @@ use mathlib.Core.Path.{sym, ap, ◌∙◌}
 use Rattle.seal.specs.declared.Sealed.{Sealed}
 use Rattle.host.specs.Answers.{code_of}
 use Rattle.host.specs.Bags.{handed}
-use borrow.Author.Rules.{rules}
 use Rattle.host.proofs.hand_out.Goals as goal
 
 pub returns-in-Passed : goal.returns-in-Passed

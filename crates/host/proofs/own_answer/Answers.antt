@@ -1,5 +1,4 @@
 use mathlib.Core.Path.{sym}
-use borrow.Author.Rules.{rules}
 use Rattle.host.proofs.own_answer.Goals as goal
 
 pub returns-then-is_accepted : goal.returns-then-is_accepted

@@ -5,7 +5,6 @@ use native.Mathlib.Omega.{arith}
 use lib.ListN.{length}
 use borrow.Author.Tests.{lt-ltb, le-ltb, not-true, not-false}
 use Rattle.host.specs.Books.{day_answer, day_after}
-use borrow.Author.Rules.{rules}
 use Rattle.host.proofs.snaldrek_proved_day.Goals as goal
 
 pub returns-then-list-row : goal.returns-then-list-row

@@ -5,7 +5,6 @@ use borrow.Author.Tests.{eq-eqb, ne_eqb}
 use Rattle.ledgerbytes.specs.LedgerBytes.{buffer_after_write}
 use Rattle.judge.specs.Kept.{kept_after}
 use Rattle.host.specs.Ledgers.{judge_answer, ledger_after_judge_call, table_after_judge_call}
-use borrow.Author.Rules.{rules}
 use Rattle.host.proofs.snaldrek_proved_judge.Goals as goal
 
 pub returns-then-ledger-ne-LEDGER_LENGTH : goal.returns-then-ledger-ne-LEDGER_LENGTH

@@ -4,7 +4,6 @@ use lib.ListN.{length}
 use borrow.Author.Tests.{eq-eqb, ne_eqb}
 use Rattle.ledgerbytes.specs.LedgerBytes.{buffer_after_write}
 use Rattle.host.specs.Ledgers.{open_answer, roll_after_open_call}
-use borrow.Author.Rules.{rules}
 use Rattle.host.proofs.snaldrek_proved_open.Goals as goal
 
 pub returns-then-ledger-ne-LEDGER_LENGTH : goal.returns-then-ledger-ne-LEDGER_LENGTH

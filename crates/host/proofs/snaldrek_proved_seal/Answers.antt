@@ -3,7 +3,6 @@ use native.Mathlib.Omega.{arith}
 use lib.ListN.{length}
 use borrow.Author.Tests.{eq-eqb, ne_eqb}
 use Rattle.host.specs.Bags.{body_answer, pull_after}
-use borrow.Author.Rules.{rules}
 use Rattle.host.proofs.snaldrek_proved_seal.Goals as goal
 
 pub returns-then-pull-ne8 : goal.returns-then-pull-ne8

@@ -1,6 +1,6 @@
 -- Three returns: a tally of another length, a full one, and one that is counted and written back; each rewrites the definitions by the tests that led there.
 use mathlib.Core.Path.{◌≡◌, sym, ap, ◌∙◌}
-use mathlib.Core.Bool.{true, not}
+use mathlib.Core.Bool.{true}
 use native.Mathlib.Omega.{arith}
 use lib.Dec.{eqb}
 use lib.ListN.{length}

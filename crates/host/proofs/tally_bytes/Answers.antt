@@ -4,7 +4,6 @@ use lib.ListN.{length}
 use Rattle.octets.proofs.NumberLaws.{little_bytes_length}
 use Rattle.octets.proofs.Joining.{start, next, done}
 use Rattle.host.specs.Books.{tally_bytes}
-use borrow.Author.Rules.{rules}
 use Rattle.host.proofs.tally_bytes.Goals as goal
 
 pub returns : goal.returns

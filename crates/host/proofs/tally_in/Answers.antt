@@ -1,5 +1,4 @@
 use Rattle.host.specs.Books.{tally_in}
-use borrow.Author.Rules.{rules}
 use Rattle.host.proofs.tally_in.Goals as goal
 
 pub returns : goal.returns

@@ -1,5 +1,4 @@
 use mathlib.Core.Path.{◌∙◌}
-use borrow.Author.Rules.{rules}
 use Rattle.hostdesk.proofs.snaldrek_proved_write_case.Goals as goal
 
 pub returns : goal.returns

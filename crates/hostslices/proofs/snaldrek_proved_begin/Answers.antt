@@ -3,7 +3,6 @@ use native.Mathlib.Omega.{arith}
 use lib.ListN.{length}
 use borrow.Author.Tests.{eq-eqb, ne_eqb}
 use Rattle.hostslices.specs.StepCalls.{begin_call_answer, record_after_begin_call}
-use borrow.Author.Rules.{rules}
 use Rattle.hostslices.proofs.snaldrek_proved_begin.Goals as goal
 
 pub returns-then-judgement-ne-JUDGEMENT_LENGTH : goal.returns-then-judgement-ne-JUDGEMENT_LENGTH

@@ -3,7 +3,6 @@ use native.Mathlib.Omega.{arith}
 use lib.ListN.{length}
 use borrow.Author.Tests.{eq-eqb, ne_eqb}
 use Rattle.hostslices.specs.StepCalls.{step_call_answer, record_after_step_call, ledger_after_step_call, table_after_step_call}
-use borrow.Author.Rules.{rules}
 use Rattle.hostslices.proofs.snaldrek_proved_step.Goals as goal
 
 pub returns-then-ledger-ne-LEDGER_LENGTH : goal.returns-then-ledger-ne-LEDGER_LENGTH

@@ -69,7 +69,7 @@ def called(callee):
 
 def fold(name):
     """A step's name by its words alone, whatever an earlier respelling made of it."""
-    name = re.sub(r"_lem(?=[0-9]*$)", "", name.replace("-", "_").replace("is_IsLeaf", "is_leaf"))
+    name = re.sub(r"_lem(?=[0-9]*$)", "", name.replace("-", "_").replace("is_IsLeaf", "is_leaf").lower())
     return re.sub(r"_(?=[0-9]+$)", "", name)
 
 
@@ -225,7 +225,9 @@ def turn_body(fn, body, env, keep=False):
             out.append(m.group(0))
             continue
         name, fields = m.group(5), [f for f in m.group(6).split(".") if f]
-        if name in env:
+        if name in env and body[m.start() - 1:m.start()] == "{" and body[m.end():].startswith(" ="):
+            out.append(m.group(0))
+        elif name in env:
             path = fn.context(env[name], fields)
             whole_of = fn.whole(env[name], path)
             if whole_of:
@@ -271,7 +273,7 @@ def labelled(body, clauses):
         if cut is None:
             return None
         parts.append(inner[:cut].strip())
-        tail = inner[cut + 1:].strip()
+        tail = inner[cut + 1:].strip().removesuffix(",").rstrip()
     parts.append(tail)
     fields = ";\n    ".join(f"{name} = {part}" for name, part in zip(clauses, parts))
     return body[:last] + (" " if last else "") + "record {\n    " + fields + ";\n  }"

@@ -1,6 +1,8 @@
 // The shift's own books: the tally, one record changed in place, and the day list, a lent list of
 // rows of which entering an answer changes one. The tally has a call over plain values too, for callers
 // that lend no record. Which answers to enter is left to the caller.
+#![tactic(auto)]
+
 ghost use Rattle.std.specs.Prelude.{◌≡◌, ◌<◌};
 ghost use Rattle.books.specs.Tally.{full, count_of, raised, tally_of};
 ghost use Rattle.books.specs.DayList.{is_on, with_day_row};

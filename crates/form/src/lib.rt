@@ -2,6 +2,8 @@
 // form that is wrong. A line has a field, and the fields stand in the order of the case file (docs/FORMATS.md);
 // those that the desk works out are not asked for, and are zero bytes of the draft. What a draft must satisfy, and
 // the case that is made of it, is left to `desk`.
+#![tactic(auto)]
+
 mod digits;
 mod fields;
 mod lines;

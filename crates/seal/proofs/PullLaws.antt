@@ -20,9 +20,9 @@ module _ (g : Gate) (p : Float) where
   unfolding at_gate
   bad_limit_lem b = rw b
 
-  pub not_finite : bad_limit g ≡ false → finite p ≡ false → NotFinite ≡ at_gate g p
+  pub not_finite_lem : bad_limit g ≡ false → finite p ≡ false → NotFinite ≡ at_gate g p
   unfolding at_gate
-  not_finite b f = rw (b, f)
+  not_finite_lem b f = rw (b, f)
 
   pub not_within : bad_limit g ≡ false → finite p ≡ true → within g p ≡ false → Outside ≡ at_gate g p
   unfolding at_gate
@@ -41,7 +41,7 @@ module _ (g : Gate) (p : Float) where
       (λ f. by_test (within g p)
       (λ w. (cc (passes b f w ∙ e), (b, (f, w))))
       (λ w. absurd (let z : ◌≡◌ {A = ℕ} 0 1 = cc (not_within b f w ∙ e) in omega arith)))
-      (λ f. absurd (let z : ◌≡◌ {A = ℕ} 0 1 = cc (not_finite b f ∙ e) in omega arith)))
+      (λ f. absurd (let z : ◌≡◌ {A = ℕ} 0 1 = cc (not_finite_lem b f ∙ e) in omega arith)))
 
 module _ (c : Calibration) (g : Gate) where
   -- the answer is that of the table's first row that applies
@@ -70,4 +70,4 @@ module _ (c : Calibration) (g : Gate) where
   nan_refused =
       by_test (bad_limit g)
       (λ b. inl (ap seal_answer (sym (bad_limit_lem g (pull_of nan c) b))))
-      (λ b. inr (ap seal_answer (sym (not_finite g (pull_of nan c) b (ap finite nan_pull)))))
+      (λ b. inr (ap seal_answer (sym (not_finite_lem g (pull_of nan c) b (ap finite nan_pull)))))

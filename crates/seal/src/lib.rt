@@ -1,6 +1,8 @@
 // The wire's pull: what a seal's 25 bytes say, what the scanner's calibration makes of the raw
 // reading, and whether that passes the gate.
 // Where the seal lies in a bag and which calibration a scanner has are left to the crates above.
+#![tactic(auto)]
+
 ghost use Rattle.std.specs.Prelude.{◌≡◌};
 ghost use Rattle.std.specs.Float.{binary64};
 ghost use Rattle.std.specs.Float.Ieee.{of_bits};

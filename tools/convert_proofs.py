@@ -69,8 +69,8 @@ def called(callee):
 
 def fold(name):
     """A step's name by its words alone, whatever an earlier respelling made of it."""
-    name = re.sub(r"_lem(?=[0-9]*$)", "", name.replace("-", "_").replace("is_IsLeaf", "is_leaf").lower())
-    return re.sub(r"_(?=[0-9]+$)", "", name)
+    name = re.sub(r"_lem(?=[0-9]*$)", "", name.replace("-", "_").replace("is_IsLeaf", "is_leaf"))
+    return re.sub(r"_(?=[0-9]+$)", "", name).lower()
 
 
 class Trouble(Exception):
@@ -191,79 +191,229 @@ class Function:
 PATH = r"((?:\.[A-Za-z_][\w'-]*|\.[0-9]+)*)"
 
 
+class Texts:
+    """The names of a function's proof: contexts, what leads from one context to another, and helpers that take a context."""
+
+    def __init__(self, fn):
+        self.fn, self.leads, self.helpers, self.trouble = fn, set(), {}, []
+
+    def context_end(self, text, i, known):
+        """Where a term that is a context ends, if one begins at i."""
+        if text.startswith("(", i):
+            j = self.context_end(text, i + 1, known)
+            if j is None or not text.startswith(")", j):
+                return None
+            j += 1
+        else:
+            m = IDENT.match(text, i)
+            if not m:
+                return None
+            if m.group(0) in self.leads:
+                j = m.end()
+                while j < len(text) and text[j] in " \n":
+                    j += 1
+                return self.context_end(text, j, known)
+            if m.group(0) not in known:
+                return None
+            j = m.end()
+        while text.startswith(".before", j) and not re.match(r"[\w'-]", text[j + 7:j + 8]):
+            j += 7
+        return j
+
+    def path_end(self, text, i, known):
+        """Where a field of a context ends, if one begins at i, and its fields."""
+        e = self.context_end(text, i, known)
+        p = re.compile(PATH).match(text, e) if e else None
+        fields = [f for f in p.group(1).split(".") if f] if p else []
+        return (p.end(), fields) if fields else None
+
+    def turn(self, place, text, known):
+        """A term with today's paths; the helpers that it needs."""
+        known, out, i, needs, records = set(known), [], 0, [], {}
+        while i < len(text):
+            m = re.compile(r"let ([A-Za-z_][\w'-]*)(?: : [^=]*?)? = ").match(text, i)
+            if m and (i == 0 or text[i - 1] in " \n(,;"):
+                j = self.context_end(text, m.end(), known)
+                k = re.compile(r"\s+in\s+").match(text, j) if j else None
+                if k:
+                    known.add(m.group(1))
+                    i = k.end()
+                    continue
+                known.discard(m.group(1))
+                name = m.group(1)
+                records.pop(name, None)
+                if name == "c":
+                    # the context's own name
+                    text = text[:i] + re.sub(r"(?<![\w'.\-])c(?![\w'\-])", "these", text[i:])
+                    name = "these"
+                w = re.compile(r"let [\w'-]+ = ").match(text, i)
+                e = self.path_end(text, w.end(), known) if w else None
+                if e and re.compile(r"\s+in\s").match(text, e[0]):
+                    path = self.fn.context(place, e[1])
+                    several = self.fn.whole(place, path)
+                    if several:
+                        records[name] = several
+                        out.append(f"let {name} = c." + ".".join(path))
+                        i = e[0]
+                        continue
+                out.append("let " + name)
+                i += len("let " + name)
+                continue
+            at_start = i == 0 or not re.match(r"[\w'.\-]", text[i - 1])
+            if at_start and (text[i] == "(" or IDENT.match(text, i)):
+                word = IDENT.match(text, i)
+                if word and word.group(0) in self.helpers:
+                    j = word.end()
+                    while j < len(text) and text[j] in " \n":
+                        j += 1
+                    e = self.context_end(text, j, known)
+                    if e is not None and re.match(r"\.[A-Za-z]", text[e:]):
+                        e = None
+                    if e is None and self.helpers[word.group(0)]["inner"]:
+                        e = word.end()
+                    if e is not None:
+                        out.append(word.group(0))
+                        needs.append(word.group(0))
+                        i = e
+                        continue
+                e = self.context_end(text, i, known)
+                if e is not None:
+                    p = re.compile(PATH).match(text, e)
+                    fields = [f for f in p.group(1).split(".") if f]
+                    if fields:
+                        path = self.fn.context(place, fields)
+                        several = self.fn.whole(place, path)
+                        if any("?" in f for f in path):
+                            self.trouble.append("c." + ".".join(path))
+                        if several:
+                            parts = ["c." + ".".join(path + [w]) for w in several]
+                            out.append("(" + ", (".join(parts[:-1]) + ", " + parts[-1] + ")" * (len(parts) - 1))
+                        elif path[0].startswith("if-not-") and path[1:] in (["true"], ["false"]):
+                            out.append("(ap not c." + ".".join(path) + ")")
+                        else:
+                            out.append("c." + ".".join(path))
+                        i = p.end()
+                        continue
+                    if word and re.match(r"\s*=\s", text[e:]):
+                        out.append(word.group(0))
+                        i = word.end()
+                        continue
+                    if text[i] == "(" or word and word.group(0) in known | self.leads:
+                        out.append("c")
+                        self.trouble.append("the whole context in: " + text[max(0, i - 30):e + 10].replace("\n", " "))
+                        i = e
+                        continue
+                if word and word.group(0) in records:
+                    p = re.compile(PATH).match(text, word.end())
+                    fields = [f for f in p.group(1).split(".") if f]
+                    out.append(word.group(0) + "".join("." + f for f in by_name(["ensures"] + fields, "ensures", records[word.group(0)])[1:]))
+                    i = p.end()
+                    continue
+                if word:
+                    out.append(word.group(0))
+                    i = word.end()
+                    continue
+            out.append(text[i])
+            i += 1
+        return "".join(out), needs
+
+    def add(self, lines, inside):
+        """Takes a definition of the older file: True where it takes a context."""
+        text = "\n".join(l[2:] if inside else l for l in lines if not l.strip().startswith("--"))
+        m = re.match(r"((?:(?:abbrev|unfoldable|pub) )*)([\w'-]+) : (.*?)\n((?:unfolding [^\n]*\n)?)\2((?: [^\s=]+)*) =(?=\s)(.*)\Z", text, re.S)
+        if not m:
+            if "tie." in text or inside:
+                self.trouble.append("a helper that is not one clause: " + text.split("\n")[0])
+            return False
+        _, name, kind, unfold, params, body = m.groups()
+        params = params.split()
+        lead = re.match(r"tie\.[\w'-]+(?: [\w'-]+)* → tie\.[\w'-]+(?: [\w'-]+)*\Z", kind.strip())
+        if lead:
+            self.leads.add(name)
+            return True
+        known, k = set(), 0
+        while True:
+            b = re.match(r"\s*\((\w+) : tie\.[\w'-]+(?: [\w'-]+)*\)\s*(?:→\s*)?|\s*tie\.[\w'-]+(?: [\w'-]+)*\s*→\s*", kind)
+            if not b:
+                break
+            if b.group(1):
+                known.add(b.group(1))
+            if k < len(params):
+                known.add(params[k])
+            k += 1
+            kind = kind[b.end():]
+        if k == 0 and not inside:
+            return False
+        if k > 1 or "tie." in kind:
+            self.trouble.append("a helper with more contexts: " + name)
+        known |= {inside} if inside else set()
+        self.helpers[name] = {"kind": kind, "unfold": unfold.strip(), "params": params[k:], "body": body.strip(), "known": known, "inner": bool(inside)}
+        return True
+
+    def lets(self, place, names):
+        """The helpers that these need, as lets in their order, and what they unfold."""
+        order, wanted = list(self.helpers), []
+        turned = {}
+
+        def want(name):
+            if name in turned:
+                return
+            h = self.helpers[name]
+            kind, n1 = self.turn(place, h["kind"], h["known"])
+            body, n2 = self.turn(place, h["body"], h["known"])
+            turned[name] = (kind, body)
+            for n in n1 + n2:
+                if n != name:
+                    want(n)
+
+        for name in names:
+            want(name)
+        text, unfold = "", []
+        for name in order:
+            if name in turned:
+                h = self.helpers[name]
+                kind, body = turned[name]
+                given = "".join(f"λ {p}. " for p in h["params"])
+                text += f"let {name} : {kind.strip()} = {given}{body} in\n    "
+                unfold += h["unfold"].split()[1:]
+        return text, unfold
+
+
+IDENT = re.compile(r"[A-Za-z_][\w'₀₁₂]*(?:-[\w'₀₁₂]+)*")
+
+
 def strip(text):
     return "\n".join(line.rstrip() for line in text.split("\n"))
 
 
-def turn_body(fn, body, env, keep=False):
-    """A body in which the names of env are contexts, one and the same where they do not keep their names."""
-    trouble = []
-    env, whole = dict(env), {name: name if keep else "c" for name in env}
-    root = dict(whole)
-    out, i = [], 0
-    token = re.compile(r"let ([A-Za-z_][\w'-]*)((?: : (?:tie\.)[\w'-]+)?) = ([A-Za-z_][\w'-]*)" + PATH + r" in\s*|(?<![\w'.\-])([A-Za-z_][\w']*(?:-[\w']+)*)" + PATH)
-    while True:
-        m = token.search(body, i)
-        if not m:
-            out.append(body[i:])
-            break
-        out.append(body[i:m.start()])
-        i = m.end()
-        if m.group(1):
-            name, of, fields = m.group(1), m.group(3), [f for f in m.group(4).split(".") if f]
-            if of in env:
-                path = fn.context(env[of], fields)
-                if path is None:
-                    env[name] = env[of]
-                    whole[name] = whole[of] + ".before" * len(fields)
-                    root[name] = root[of]
-                    continue
-                env.pop(name, None)
-                out.append(f"let {name} = {root[of]}." + ".".join(path) + " in" + re.search(r"\s*$", m.group(0)).group(0))
-                continue
-            env.pop(name, None)
-            out.append(m.group(0))
-            continue
-        name, fields = m.group(5), [f for f in m.group(6).split(".") if f]
-        if name in env and body[m.start() - 1:m.start()] == "{" and body[m.end():].startswith(" ="):
-            out.append(m.group(0))
-        elif name in env:
-            path = fn.context(env[name], fields)
-            whole_of = fn.whole(env[name], path)
-            if whole_of:
-                parts = [root[name] + "." + ".".join(path + [w]) for w in whole_of]
-                out.append("(" + ", (".join(parts[:-1]) + ", " + parts[-1] + ")" * (len(parts) - 1))
-            elif path is None:
-                trouble.append(f"the whole context {name} at {env[name]}")
-                out.append(whole[name] + ".before" * len(fields))
-            elif path[0].startswith("if-not-") and path[1:] in (["true"], ["false"]):
-                out.append("(ap not " + root[name] + "." + ".".join(path) + ")")
-            else:
-                out.append(root[name] + "." + ".".join(path))
-                if any("?" in p for p in path):
-                    trouble.append("c." + ".".join(path))
+def asked_of(goal):
+    """The clauses that a call's goal asks for, where there are several."""
+    m = re.match(r"(\w+?)(?:-[\w-]*)?-requires(?:-|$)", goal)
+    if not m:
+        return None
+    found = [names["requires"] for (crate, name), names in CLAUSES.items() if name.split("::")[-1] == m.group(1)]
+    found = [names for names in found if len(names) > 1]
+    return found[0] if len(found) == 1 or found and all(f == found[0] for f in found) else None
+
+
+def last_in(body):
+    """Where a body goes on behind its lets."""
+    depth, last = 0, 0
+    for m in re.finditer(r"[([{]|[)\]}]|(?<![\w'-])in(?![\w'-])", body):
+        if m.group(0) == "in":
+            last = m.end() if depth == 0 else last
         else:
-            out.append(m.group(0))
-    return "".join(out), trouble
+            depth += 1 if m.group(0) in "([{" else -1
+    return last
 
 
 def labelled(body, clauses):
-    """A tuple at the end of a body, as a record of the clauses."""
-    if not clauses:
+    """A tuple at the end of a body, as a record of the clauses; one term may stand for the last of them."""
+    if not clauses or len(clauses) == 1:
         return body
-    # the body behind its lets
-    depth, last, i = 0, 0, 0
-    for m in re.finditer(r"[([{]|[)\]}]|(?<![\w'-])in(?![\w'-])", body):
-        if m.group(0) == "in":
-            if depth == 0:
-                last = m.end()
-        else:
-            depth += 1 if m.group(0) in "([{" else -1
-    tail = body[last:].strip()
-    parts = []
-    for k in range(len(clauses) - 1):
-        if not tail.startswith("(") or matching(tail, 0) != len(tail) - 1:
-            return None
+    last = last_in(body)
+    tail, parts = body[last:].strip(), []
+    while len(parts) < len(clauses) - 1 and tail.startswith("(") and matching(tail, 0) == len(tail) - 1:
         inner, depth, cut = tail[1:-1], 0, None
         for j, ch in enumerate(inner):
             depth += {"(": 1, "[": 1, "{": 1, ")": -1, "]": -1, "}": -1}.get(ch, 0)
@@ -271,51 +421,21 @@ def labelled(body, clauses):
                 cut = j
                 break
         if cut is None:
-            return None
+            break
         parts.append(inner[:cut].strip())
-        tail = inner[cut + 1:].strip().removesuffix(",").rstrip()
-    parts.append(tail)
-    fields = ";\n    ".join(f"{name} = {part}" for name, part in zip(clauses, parts))
-    return body[:last] + (" " if last else "") + "record {\n    " + fields + ";\n  }"
-
-
-def in_parts(body, clauses):
-    """A term for all clauses in one, as a record of them."""
-    depth, last = 0, 0
-    for m in re.finditer(r"[([{]|[)\]}]|(?<![\w'-])in(?![\w'-])", body):
-        if m.group(0) == "in":
-            last = m.end() if depth == 0 else last
-        else:
-            depth += 1 if m.group(0) in "([{" else -1
-    fields, path = [], "both"
-    for k, name in enumerate(clauses):
-        fields.append(f"{name} = {path}" + (".0" if k < len(clauses) - 1 else ""))
-        path += ".1"
-    return body[:last] + " let both = " + body[last:].strip() + " in\n  record {\n    " + ";\n    ".join(fields) + ";\n  }"
-
-
-def turn_helper(fn, text, trouble):
-    """A definition that takes a context, as one that takes today's."""
-    m = re.match(r"(?s)((?:--[^\n]*\n)*)((?:(?:abbrev|unfoldable|pub) )*)([\w'-]+) : (.*?)\n((?:unfolding [^\n]*\n)?)([\w'-]+(?: [^\s=]+)*) =(.*)\Z", text)
-    if not m:
-        trouble.append("helper: " + text.split("\n")[0])
-        return text
-    comment, mark, name, kind, unfold, left, body = m.groups()
-    params = left.split()[1:]
-    env = {}
-    for k, of in enumerate(re.findall(r"\((\w+) : tie\.([\w'-]+)\)|(?:^|→ )()tie\.([\w'-]+)(?= →|$)", kind)):
-        place = of[1] or of[3]
-        if place in fn.places and k < len(params):
-            env[of[0] or params[k]] = place
-            env[params[k]] = place
-    kind, said = turn_body(fn, kind, env, True)
-    for p in fn.places:
-        kind = re.sub(r"tie\." + re.escape(p) + r"(?![\w'-])", "PLACE·" + fn.today[p], kind)
-    body, more = turn_body(fn, body, env, True)
-    if not env:
-        trouble.append("helper of no context: " + name)
-    trouble += [f"helper {name}: {s}" for s in said + more]
-    return f"{comment}{mark}{name} : {kind}\n{unfold}{left} ={body}"
+        tail = inner[cut + 1:].strip().rstrip(",").strip()
+    fields = [f"{name} = {part}" for name, part in zip(clauses, parts)]
+    left, both = clauses[len(parts):], ""
+    if len(left) == 1:
+        fields.append(f"{left[0]} = {tail}")
+    elif tail == "search rules":
+        fields += [f"{name} = search rules" for name in left]
+    else:
+        both, path = f"let all = {tail} in\n    ", "all"
+        for k, name in enumerate(left):
+            fields.append(f"{name} = {path}" + (".0" if k < len(left) - 1 else ""))
+            path += ".1"
+    return body[:last] + ("\n    " if last else "") + both + "record {\n    " + ";\n    ".join(fields) + ";\n  }"
 
 
 def with_not(uses, text):
@@ -397,18 +517,33 @@ def turn(path, entry, module):
             if kind == "decreases" and not any(True for _ in [0]):
                 continue
             invariants.append((comment, f"abbrev pub {kind}-{new} : goal.{kind}-{new}" + (unfold.group(0) if unfold else "") + f"\n{kind}-{new} l = {term}"))
+    texts, others, inside = Texts(fn), [], None
+    for lines in decls:
+        if any(named.get(a) is lines for a in used | {a for a in answers}):
+            continue
+        first = next((l for l in lines if not l.startswith("--")), "")
+        m = re.match(r"module _ \((\w+) : tie\.", first)
+        if m:
+            inside = m.group(1)
+            lines = lines[lines.index(first) + 1:]
+        elif not first.startswith("  "):
+            inside = None
+        if not texts.add(lines, inside):
+            others.append("\n".join(lines))
+            if "tie." in others[-1]:
+                trouble.append("helper: " + lines[0][:80])
     for arg, (old, new), place in zip(answers, needs, [p[0] for p in entry["asked_at"]]):
         if SEARCHES.fullmatch(arg):
             continue
-        clauses = entry["asked"].get(old)
-        comment, unfold = [], ""
+        clauses = entry["asked"].get(old) or asked_of(new)
+        comment, unfold = [], []
         if arg in named:
             used.add(arg)
             lines = named[arg]
             comment = [l for l in lines if l.startswith("--")]
             body = "\n".join(l for l in lines if not l.startswith("--"))
-            u = re.search(r"\n(unfolding [^\n]*)", body)
-            unfold = "\n" + u.group(1) if u else ""
+            u = re.search(r"\nunfolding ([^\n]*)", body)
+            unfold = u.group(1).split() if u else []
             m = re.search(r"\n" + re.escape(arg) + r"((?: [^\s=]+)*) =\s*(.*)\Z", body, re.S)
             if not m:
                 raise Trouble(f"{arg} is not one clause")
@@ -420,29 +555,22 @@ def turn(path, entry, module):
             params, term = m.group(1).split(), m.group(2)
         if not params:
             raise Trouble(f"{arg} has no parameter")
-        body, said = turn_body(fn, term, {params[0]: place})
-        trouble += [f"{new}: {s}" for s in said]
+        texts.trouble = []
+        body, wanted = texts.turn(place, term, {params[0]})
+        lets, more = texts.lets(place, wanted)
+        body = lets + body
+        trouble += [f"{new}: {s}" for s in texts.trouble]
+        unfold = [u for u in dict.fromkeys(unfold + more) if u not in texts.helpers]
         done = labelled(body, clauses)
-        if done is None:
-            done = in_parts(body, clauses)
         if done.strip() == "search rules" and not unfold:
             continue
         sep = "\n    " if "\n" in done else " "
-        rest.append((comment, f"pub {new} : goal.{new}{unfold}\n{new} c ={sep}{done.strip()}"))
-    others = []
-    for lines in decls:
-        if not any(named.get(a) is lines for a in used):
-            helper = "\n".join(lines)
-            if "tie." in helper:
-                helper = turn_helper(fn, helper, trouble)
-            others.append(helper)
+        line = ("\nunfolding " + " ".join(unfold)) if unfold else ""
+        rest.append((comment, f"pub {new} : goal.{new}{line}\n{new} c ={sep}{done.strip()}"))
     folder = os.path.dirname(path)
 
     def write(name, given, parts, helpers):
-        places = sorted(set(re.findall(r"PLACE·([\w'-]+)", "\n".join(helpers))))
-        helpers = [h.replace("PLACE·", "") for h in helpers]
-        named_places = [f"use {module}.{given}.{{{', '.join(places)}}}"] if places else []
-        lines = list(head) + with_not(uses, "\n".join(p[1] for p in parts) + "\n".join(helpers)) + [f"use {module}.{given} as goal"] + named_places + [""]
+        lines = list(head) + with_not(uses, "\n".join(p[1] for p in parts) + "\n".join(helpers)) + [f"use {module}.{given} as goal", ""]
         for helper in helpers:
             lines += [helper, ""]
         for comment, part in parts:

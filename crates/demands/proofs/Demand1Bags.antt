@@ -80,12 +80,12 @@ module _ (k i at : ℕ) (b : List ℕ) where
         empty = λ z. let f : i + suc k - 1 ≡ i = omega arith in sym first-end ∙ ap (end_of b) (sym f) ∙ o.ends (omega arith);
       }
 
-in_order : (k i at : ℕ) (b : List ℕ) → Tells (in_order k i at b) (InOrder k i at b)
+in_order_lem : (k i at : ℕ) (b : List ℕ) → Tells (in_order k i at b) (InOrder k i at b)
 unfolding in_order
-in_order zero i at b =
+in_order_lem zero i at b =
     (λ h. record { kinds = λ j l m. absurd (omega arith); starts = λ l. absurd (omega arith); touch = λ j l m. absurd (omega arith); ends = λ l. absurd (omega arith); empty = λ e. eqb-true at (length b) h }, λ o. eq-eqb at (length b) (o.empty refl))
-in_order (suc k) i at b =
-    let t = tells_both (tells_both tells_equal tells_equal) (in_order k (i + 1) (next k i at b) b) in
+in_order_lem (suc k) i at b =
+    let t = tells_both (tells_both tells_equal tells_equal) (in_order_lem k (i + 1) (next k i at b) b) in
     (λ h. let p = t.0 h in forth k i at b p.0.0 p.0.1 p.1, λ o. t.1 ((o.kinds i (omega arith) (omega arith), o.starts (omega arith)), back k i at b o))
 
 -- THE ROWS of a bag
@@ -93,7 +93,7 @@ rows_told : (b : List ℕ) → Tells (laid_out b) (RowsLaidOut b)
 unfolding laid_out
 rows_told b =
     let n = row_count b in
-    let t = tells_both (tells_both (tells_both tells_at_most tells_at_most) tells_at_most) (in_order n 0 (row_start n) b) in (
+    let t = tells_both (tells_both (tells_both tells_at_most tells_at_most) tells_at_most) (in_order_lem n 0 (row_start n) b) in (
       λ h. let p = t.0 h in
           let l : 1 ≤ n = p.0.0.1 in
           record {

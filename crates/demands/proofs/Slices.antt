@@ -225,8 +225,8 @@ module _ (b : List ℕ) (h : Held) where
     check_not_yet n =
         (share_check _ _ _ _ _ b w n ∙ ap (λ (x : ℕ). not_yet (x + 1)) (sym n), held_as (share_check _ _ _ _ _ b w n) (share_check _ _ _ _ _ b w n))
 
-    pub not_yet : steps_in b < 59 → (step_on b h ≡ not_yet (steps_in b + 1)) × (held_after_step b h ≡ h)
-    not_yet n =
+    pub not_yet_lem : steps_in b < 59 → (step_on b h ≡ not_yet (steps_in b + 1)) × (held_after_step b h ≡ h)
+    not_yet_lem n =
         by_test (ltb (steps_in b) 29)
         (λ e. first_not_yet (ltb-true (steps_in b) 29 e))
         (λ e. by_test (ltb (steps_in b) 58)
@@ -399,7 +399,7 @@ made_done {c} w (stepped {k} {b} m h) n =
 not_sixty : (c : List ℕ) (k : ℕ) (b : List ℕ) (h : Held) → has_length c ≡ true → MadeOf c k b → (k ≡ 59 → ⊥) → held_after_step b h ≡ h
 not_sixty c k b h w m n =
     by_test (ltb k 59)
-    (λ e. let p = made_holds c w m (omega (arith, ltb-true k 59 e)) in (not_yet b h (holding c w p) (omega (arith, p.steps, ltb-true k 59 e))).1)
+    (λ e. let p = made_holds c w m (omega (arith, ltb-true k 59 e)) in (not_yet_lem b h (holding c w p) (omega (arith, p.steps, ltb-true k 59 e))).1)
     (λ e. let d = made_done w m (omega (arith, n, ltb-false k 59 e)) in (done_repeats b h d.0 d.1).1.same_held)
 
 -- one step

@@ -1,5 +1,6 @@
 pub mod Bare
 pub mod Halves
+mod HeldRow
 pub mod Weighing
 pub mod Outcomes
 pub mod LedgerAnswers

@@ -120,9 +120,9 @@ module _ (seal : List ℕ) (cases : List (List ℕ)) (few : length cases ≤ 7) 
       let bodies = flat (seal ∷ cases) in
       rw (append_assoc (little_bytes 2 n) rows bodies, part_at [] (little_bytes 2 n) (rows ++ bodies) 0 2 refl (little_bytes_length 2 n)) (little_bytes_lem 2 n (omega arith))
 
-  pub laid_out : laid_out (bag_of (seal ∷ cases)) ≡ true
+  pub laid_out_lem : laid_out (bag_of (seal ∷ cases)) ≡ true
   unfolding laid_out bag n
-  laid_out = rw (count, le-leb (length bag) 65536 short, le-leb 1 n (omega arith), le-leb n 8 (omega arith)) all_found.order
+  laid_out_lem = rw (count, le-leb (length bag) 65536 short, le-leb 1 n (omega arith), le-leb n 8 (omega arith)) all_found.order
 
   pub seal_back : body_of 0 (bag_of (seal ∷ cases)) ≡ seal
   unfolding bodies_from bag

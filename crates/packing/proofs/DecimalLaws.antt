@@ -1,6 +1,6 @@
 -- Digits and the numbers that they write.
 -- Assumes nothing.
-use Rattle.std.proofs.Common.{◌≡◌, ℕ, suc, ◌+◌, ◌-◌, ◌*◌, ◌^◌, ◌<◌, ◌≤◌, true, false, cond, ◌&&◌, eqb, leb, List, [], ◌∷◌, length, get_or, drop, sym, refl, ⊎_elim, le_trans, mul-le-mul_right, mul_assoc, mul_comm, eq-or-lt_of_le, pow-suc, le-mul_of_pos_right, arith, pow-add, eq-eqb, ne_eqb, eqb-true, le-leb, leb-true}
+use Rattle.std.proofs.Common.{◌≡◌, ℕ, suc, ◌+◌, ◌-◌, ◌*◌, ◌^◌, ◌<◌, ◌≤◌, true, false, cond, ◌&&◌, eqb, leb, List, [], ◌∷◌, length, get_or, drop, sym, refl, ◌∙◌, ⊎_elim, le_trans, mul-le-mul_right, mul_assoc, mul_comm, eq-or-lt_of_le, pow-suc, le-mul_of_pos_right, arith, pow-add, eq-eqb, ne_eqb, eqb-true, le-leb, leb-true}
 use mathlib.Core.Bool.{false≢true}
 use native.Mathlib.Nat.{one-le-pow, pow-le-pow_right}
 use borrow.Author.Tests.{eqb-false, lt-leb}
@@ -173,3 +173,25 @@ module _ (u w : List ℕ) (e : w ≡ whole u) where
     pub with_point : (length w ≡ length u → ⊥) → length u ≤ 16 → is_unsigned u ≡ is_digits (fraction u)
     unfolding is_unsigned
     with_point k l = rw (sym e, h, ne_eqb (length w) (length u) k, le-leb (length u) 16 l)
+
+-- VALUE_FROM, which takes one digit each turn: what holds before a turn, and after it. n is the number so far, i the index of the next digit
+pub record Left (v : ℕ) (s : List ℕ) (n i : ℕ) : Type 0 where
+  pub digits : all_digits (drop i s) ≡ true
+  pub room : (n + 1) * 10 ^ (length s - i) ≤ 10 ^ 15
+  pub value : value_from v s ≡ value_from n (drop i s)
+
+module _ (v : ℕ) (s : List ℕ) (n i : ℕ) (h : i < length s) (l : Left v s n i) where
+  pub this_digit : is_digit (get_or s i 0) ≡ true
+  this_digit = (and_both (is_digit (get_or s i 0)) (all_digits (drop (i + 1) s)) (sym (digits_next s i h) ∙ l.digits)).0
+
+  pub below_most : n < 10 ^ 15
+  below_most = room_below n (length s - i) (10 ^ 15) l.room
+
+  pub turn : Left v s (n * 10 + (get_or s i 0 - 48)) (i + 1)
+  turn =
+      let e : length s - i ≡ suc (length s - (i + 1)) = omega arith in
+      record {
+        digits = (and_both (is_digit (get_or s i 0)) (all_digits (drop (i + 1) s)) (sym (digits_next s i h) ∙ l.digits)).1;
+        room = room_next n (get_or s i 0 - 48) (length s - (i + 1)) (10 ^ 15) (omega (arith, digit_high _ this_digit)) (rw e at l.room);
+        value = l.value ∙ value_next s i h n;
+      }

@@ -16,7 +16,7 @@ use Rattle.packing.specs.Words.{word}
 use Rattle.packing.specs.Seals.{gate_in, raw_in, seal_of}
 use Rattle.packing.specs.Bags.{bag_of, parts}
 use Rattle.packing.specs.Packing.{line_in, bytes_in, kind_in, case_count, first_length, sizes_in, bag_in, is_fit, first_unfit, verdict_of, head_for, is_packed, packed_from, text_of}
-use Rattle.packing.proofs.BagLaws.{laid_out, seal_back, cases_back}
+use Rattle.packing.proofs.BagLaws.{laid_out_lem, seal_back, cases_back}
 use Rattle.packing.proofs.SealLaws.{line_read_back}
 use Rattle.packing.proofs.SizeLaws.{sizes_length, parts_length, parts_flat}
 use Rattle.packing.proofs.TextLaws.{bag_short}
@@ -42,12 +42,12 @@ module _ (kind cases : ℕ) (line bytes : List ℕ) (h : is_packed (verdict_of k
   -- which keeps to the layout
   pub layout : laid_out (bag_in kind cases line bytes) ≡ true
   unfolding bag_in cut
-  layout = laid_out (seal_of kind line) cut few short
+  layout = laid_out_lem (seal_of kind line) cut few short
 
   -- says the gate and the raw reading that the line says
   pub seal : seal_in (bag_in kind cases line bytes) ≡ Seal (gate_in kind line) (raw_in kind line)
   unfolding seal_in bag_in cut
-  seal = rw (laid_out (seal_of kind line) cut few short, seal_back (seal_of kind line) cut few short) (line_read_back kind line)
+  seal = rw (laid_out_lem (seal_of kind line) cut few short, seal_back (seal_of kind line) cut few short) (line_read_back kind line)
 
   -- has the cases, cut by the lengths that the line says
   pub the_cases : cases_of (bag_in kind cases line bytes) ≡ parts (sizes_in kind cases line) bytes

@@ -1,6 +1,8 @@
 // A bag packed from a seal's words and some cases: the other way round of what `bag` and `seal` read.
 // The input is one line, with the gate's name, its limits, the raw reading, the word "cases" and the
 // length of each case, and behind it the bytes of the cases. What the cases say is not looked at.
+#![tactic(auto)]
+
 ghost use Rattle.std.specs.Prelude.{◌≡◌, ◌+◌, ◌*◌, ◌^◌, ◌≤◌, true, ◌++◌, length, drop, to_bits};
 ghost use Rattle.std.specs.Float.{binary64};
 ghost use Rattle.text.specs.Decimal.{decimal};

@@ -1,0 +1,16 @@
+-- Before row i the answers given so far stand in the array, and judging the bodies from row i on, from this table and ledger, gives what judging all cases gives (`Before`); one case judged is one turn of it.
+use lib.ListN.{length-set}
+use Prim.Native.Nat.{◌-◌, ◌≤◌}
+use mathlib.Core.Path.{◌≡◌, refl, ◌∙◌}
+use native.Mathlib.Omega.{arith}
+use lib.ListN.{length}
+use Rattle.bag.proofs.OrderLaws.{kept}
+use Rattle.bag.proofs.CaseLaws.{Before, start, turn, table_left, reported}
+use borrow.Author.Rules.{rules}
+use Rattle.bag.proofs.judge_cases.Given as goal
+
+abbrev pub invariant-loop-i : goal.invariant-loop-i
+invariant-loop-i l = (1 ≤ l.i) × ((l.i ≤ l.n) × ((l.n ≤ 8) × ((length l.answers ≡ 7) × ((length l.table ≡ length l.initial.table) × Before l.bag l.initial.table l.roll l.initial.ledger l.n l.i l.answers l.table l.ledger))))
+
+abbrev pub decreases-loop-i : goal.decreases-loop-i
+decreases-loop-i l = l.n - l.i

@@ -1,0 +1,50 @@
+-- The order of the two rows is the order of what is left of them from word k on: two words that differ decide it, two that are equal hand it on to the next, and after four the rows are equal.
+use mathlib.Core.Path.{◌≡◌, sym, ◌∙◌}
+use Prim.Native.Nat.{◌+◌, ◌-◌, ◌≤◌}
+use native.Mathlib.Nat.{add-zero}
+use native.Mathlib.Omega.{arith}
+use lib.ListN.{take, drop}
+use Rattle.ledger.specs.Rows.{decided, byte_order}
+use Rattle.ledger.proofs.ByteOrder.{decided_below, decided_above, decided_level, from_word, word_turn}
+use borrow.Author.Rules.{rules}
+use Rattle.judge.proofs.order.compare_words.Goals as goal
+
+pub loop-k-init : goal.loop-k-init
+loop-k-init c = (search rules, simp add-zero)
+
+pub returns-then-x-y : goal.returns-then-x-y
+returns-then-x-y c =
+    let turn : let a = c.args in
+    byte_order (take 32 (drop a.i a.a.now)) (take 32 (drop a.j a.b.now))
+    ≡ decided c.word-x.result c.word-y.result (from_word (c.loop-k.k + 1) a.a.now a.i a.b.now a.j) = let a = c.args in
+    c.loop-k.invariant.1
+    ∙ word_turn a.a.now a.i a.b.now a.j c.loop-k.k (omega arith) (omega arith) (omega arith)
+    (λ n. (c.shared_slice_known-1.given n).fits) (λ n. (c.shared_slice_known-2-1.given n).fits) c.word-x.ensures c.word-y.ensures in
+    sym (turn ∙ decided_below _ c.if-x-y.true)
+
+pub returns-then-y-x : goal.returns-then-y-x
+returns-then-y-x c =
+    let turn : let a = c.args in
+    byte_order (take 32 (drop a.i a.a.now)) (take 32 (drop a.j a.b.now))
+    ≡ decided c.word-x.result c.word-y.result (from_word (c.loop-k.k + 1) a.a.now a.i a.b.now a.j) = let a = c.args in
+    c.loop-k.invariant.1
+    ∙ word_turn a.a.now a.i a.b.now a.j c.loop-k.k (omega arith) (omega arith) (omega arith)
+    (λ n. (c.shared_slice_known-1.given n).fits) (λ n. (c.shared_slice_known-2-1.given n).fits) c.word-x.ensures c.word-y.ensures in
+    sym (turn ∙ decided_above _ c.if-y-x.true)
+
+pub loop-k-preserved : goal.loop-k-preserved
+loop-k-preserved c =
+    let turn : let a = c.args in
+    byte_order (take 32 (drop a.i a.a.now)) (take 32 (drop a.j a.b.now))
+    ≡ decided c.word-x.result c.word-y.result (from_word (c.loop-k.k + 1) a.a.now a.i a.b.now a.j) = let a = c.args in
+    c.loop-k.invariant.1
+    ∙ word_turn a.a.now a.i a.b.now a.j c.loop-k.k (omega arith) (omega arith) (omega arith)
+    (λ n. (c.shared_slice_known-1.given n).fits) (λ n. (c.shared_slice_known-2-1.given n).fits) c.word-x.ensures c.word-y.ensures in
+    (search rules, turn ∙ decided_level _ (omega arith))
+
+pub returns : goal.returns
+unfolding byte_order
+returns c =
+    let l = c.loop-k in
+    let e : l.k ≡ 4 = omega arith in
+    sym (l.invariant.1 ∙ rw e)

@@ -1,0 +1,15 @@
+-- After i turns the table is the old one with the first i bytes of the rows pasted at `at`.
+use mathlib.Core.Path.{◌≡◌, refl, ◌∙◌}
+use Prim.Native.Nat.{◌-◌, ◌≤◌}
+use native.Mathlib.Omega.{arith}
+use lib.ListN.{length, length-set}
+use lib.Seq.{paste, paste-zero}
+use Rattle.octets.proofs.PartLaws.{pasting, pasting_done}
+use borrow.Author.Rules.{rules}
+use Rattle.judge.proofs.table.put_four_rows.Given as goal
+
+abbrev pub invariant-loop-i : goal.invariant-loop-i
+invariant-loop-i l = (l.i ≤ 128) × (length l.rows ≡ 128) × (length l.table ≡ length l.initial.table) × (l.table ≡ paste l.initial.table l.at l.rows l.i)
+
+abbrev pub decreases-loop-i : goal.decreases-loop-i
+decreases-loop-i l = 128 - l.i

@@ -1,0 +1,11 @@
+use Rattle.text.proofs.PenLaws.{then, short_as}
+use Rattle.packing.proofs.TextLaws.{bag_as, bag_short}
+use Rattle.packing.proofs.put_bag.Goals as goal
+
+pub returns : goal.returns
+returns c =
+    let a = c.args in
+    let named = c.requires.line_value in
+    short_as (bag_short a.kind a.cases a.line.now a.bytes.now named c.requires.bytes_bound)
+    (bag_as a.kind a.cases a.line.now a.bytes.now _ c.le_bytes16-count.ensures named)
+    (then c.put-counted.ensures (then c.put_row-headed.ensures (then c.put_rows-listed.ensures (then c.put_seal-sealed.ensures c.put.ensures))))

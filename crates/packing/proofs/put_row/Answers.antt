@@ -1,0 +1,7 @@
+use Rattle.std.proofs.Common.{arith}
+use Rattle.text.proofs.PenLaws.{then, text_as}
+use Rattle.packing.proofs.TextLaws.{row_as}
+use Rattle.packing.proofs.put_row.Goals as goal
+
+pub returns : goal.returns
+returns c = text_as (omega arith) (row_as _ _ _ c.le_bytes32-starts.ensures c.le_bytes32-sizes.ensures) (then c.put-kinded.ensures (then c.put-started.ensures c.put.ensures))

@@ -1,0 +1,5 @@
+use Rattle.text.proofs.PenLaws.{then}
+use Rattle.packing.proofs.put_sentence.Goals as goal
+
+pub returns : goal.returns
+returns c = then c.put_count-next.ensures c.put.ensures

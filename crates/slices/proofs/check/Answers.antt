@@ -1,0 +1,11 @@
+use Rattle.slices.specs.Steps.{checked_in}
+use borrow.Author.Rules.{rules}
+use Rattle.slices.proofs.check.Goals as goal
+
+pub returns : goal.returns
+unfolding checked_in
+returns c =
+    record {
+      value = c.not_yet.ensures;
+      judgement_after = cc;
+    }

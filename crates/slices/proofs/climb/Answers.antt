@@ -1,0 +1,12 @@
+use Rattle.slices.specs.Records.{with_node}
+use Rattle.slices.specs.Steps.{climbed_in}
+use borrow.Author.Rules.{rules}
+use Rattle.slices.proofs.climb.Goals as goal
+
+pub returns : goal.returns
+unfolding climbed_in with_node
+returns c =
+    record {
+      value = cc;
+      judgement_after = cc;
+    }

@@ -1,0 +1,8 @@
+use Rattle.octets.specs.Numbers.{little_bytes}
+use Rattle.slices.specs.Records.{with_answer}
+use borrow.Author.Rules.{rules}
+use Rattle.slices.proofs.put_answer.Goals as goal
+
+pub returns : goal.returns
+unfolding with_answer little_bytes
+returns c = cc

@@ -1,0 +1,7 @@
+use Rattle.slices.specs.Steps.{strays_in}
+use borrow.Author.Rules.{rules}
+use Rattle.slices.proofs.strays.Goals as goal
+
+pub returns : goal.returns
+unfolding strays_in
+returns c = cc

@@ -1,6 +1,8 @@
 // What every program that scans bags shares: a bag scanned on a fresh ledger with gain 1 and offset 0,
 // and its answers as lines of text in memory. What a bag is and what it is answered is left to `bag`,
 // where the bytes come from and where the lines go to the programs.
+#![tactic(auto)]
+
 ghost use Rattle.std.specs.Prelude.{◌≡◌, min, take};
 ghost use Rattle.text.specs.Pen.{pen, Wrote, Rendered};
 ghost use Rattle.scanning.specs.Lines.{case_text, case_lines, ledger_line, lines_of};

@@ -1,6 +1,8 @@
 // What the writer prints: of a form that is wrong, the line that tells so; of any other, the desk's answer and
 // the case that it wrote. What a form is is left to `form`, how a case is made of it to `desk`, and where the bytes
 // come from and go to to the program.
+#![tactic(auto)]
+
 ghost use Rattle.std.specs.Prelude.{◌≤◌, length};
 ghost use Rattle.text.specs.Pen.{pen, Wrote, Rendered};
 ghost use Rattle.writing.specs.Printed.{case_text, printed_of};

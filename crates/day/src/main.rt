@@ -2,6 +2,8 @@
 // counted, and then tallies that are full or nearly so, in place and on plain values.
 // What is printed is the contract of `render`: a text that is worked out by the books' definitions. The
 // books themselves are left to `books`.
+#![tactic(auto)]
+
 ghost use Rattle.std.specs.Prelude.{◌≡◌, ◌+◌, length, get_or};
 ghost use mathlib.Core.List.{flat_map};
 ghost use Rattle.text.specs.Pen.{pen, Wrote, Rendered};
@@ -250,8 +252,8 @@ fn render(out: &mut [u8; 4096]) -> usize
     put_all(out)
 }
 
-fn main() {
+fn main(rt: HostRuntime) {
     let mut out = [0u8; 4096];
     let end = render(&mut out);
-    lines::print(&out[..end]);
+    lines::print(&rt, &out[..end]);
 }

@@ -1,17 +1,45 @@
-// A text on standard output. What is written cannot be said in a contract, so that this call writes these
-// bytes, all of them and once, is held by the stored runs of the programs that use it. Which bytes a text
-// has is left to those programs.
-use libc::{STDERR_FILENO, STDOUT_FILENO};
+// What the programs read and print. Which bytes reach or leave the system cannot be said in a contract, so that a
+// program reads its input from the start and prints its text, all of it and once, is held by the stored runs of the
+// programs. Which bytes a text has is left to those programs.
+#![tactic(auto)]
 
-// Writes a whole text, and answers whether it could be written. A program has no exit status, so a
-// failure is told on standard error.
-pub fn print(text: &[u8]) -> bool {
-    if io::write_all(STDOUT_FILENO, text) {
+ghost use Rattle.std.specs.Prelude.{◌≡◌, ◌≤◌, length, take};
+ghost use Rattle.std.specs.Io.KnownBytes.{Consumes};
+
+use std::io::{ErrorKind, Read};
+
+// Writes a whole text to standard output, and answers whether it could be written. A program has no exit status, so
+// a failure is told on standard error.
+pub fn print(rt: &(impl Print + Eprint), text: &[u8]) -> bool {
+    if rt.write_all(text).is_ok() {
         return true;
     }
-    io::write_all(
-        STDERR_FILENO,
-        b"the text could not be written to standard output\n",
-    );
+    let _ = rt.eprintln("the text could not be written to standard output");
     false
+}
+
+// Reads until the buffer is full, the input ends or a read fails, and returns how many bytes it put at the start of
+// the buffer: those that the input had next, in its order. A read that a signal interrupted is made again. On an
+// empty buffer it makes no call.
+pub fn read_full<R: Read>(input: &mut R, buffer: &mut [u8]) -> usize
+    ensures in_bounds { result ≤ length buffer.new }
+    ensures long { result ≡ length (take result buffer.new) }
+    ensures bytes { Consumes (R.remaining input.old) (R.remaining input.new) (take result buffer.new) }
+{
+    let mut done = 0;
+    for _ in 0..u64::MAX {
+        if done >= buffer.len() {
+            break;
+        }
+        match input.read(&mut buffer[done..]) {
+            Ok(0) => break,
+            Ok(n) => done += n,
+            Err(e) => {
+                if e.kind() != ErrorKind::Interrupted {
+                    break;
+                }
+            }
+        }
+    }
+    done
 }

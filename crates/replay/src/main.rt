@@ -2,6 +2,8 @@
 // after the other, and a line printed for each. It keeps one ledger and the two buffers lent to it.
 // What an entry leaves and which bytes are printed of it is the contract of `play_next`. What its answer
 // is, is left to `judge`, `desk`, `ledger` and `seal`.
+#![tactic(auto)]
+
 ghost use Rattle.std.specs.Prelude.{◌≡◌, ◌+◌, ◌*◌, ◌^◌, ◌<◌, ◌≤◌, min, false, ◌++◌, length, take, drop};
 ghost use Rattle.octets.specs.Parts.{zeros};
 ghost use Rattle.refusals.specs.Rules.{first, answer};
@@ -18,9 +20,9 @@ ghost use Rattle.replay.specs.Looks.{ledger_text, row_line, row_lines, rows_text
 ghost use Rattle.replay.specs.Tape.{nothing as nothing_of, running_on, can_lend, open_turn, plant_length, plant_turn, row_laid, laid_by, can_lay, table_turn, roll_turn, lay_turn, case_turn, desk_line, desk_on, desk_turn, fresh_turn, block_turn, look_turn, bare_turn, name_turn, entry_turn, next_turn, entry_length, longest, LentWithin, Plays};
 
 use ledger::{Answered, Ledger};
-use libc::STDIN_FILENO;
 use refusals::Answer;
 use seal::{Calibration, Read, Sealed};
+use std::io;
 use tree::Tree;
 use units::Amount;
 
@@ -565,11 +567,11 @@ fn run(
 
 // Reads the next entry's body to the start of a buffer as long as the longest body. A read that fails
 // counts as the tape's end.
-fn read_next(buffer: &mut [u8]) -> Next
+fn read_next(input: &mut impl io::Read, buffer: &mut [u8]) -> Next
     ensures { entry_length result ≤ length buffer.new }
 {
     let mut head = [0u8; 5];
-    let got = io::read_full(STDIN_FILENO, &mut head);
+    let got = lines::read_full(input, &mut head);
     if got == 0 {
         return Next::End;
     }
@@ -580,7 +582,7 @@ fn read_next(buffer: &mut [u8]) -> Next
     if buffer.len() < n {
         return Next::Broken;
     }
-    if io::read_full(STDIN_FILENO, &mut buffer[0..n]) < n {
+    if lines::read_full(input, &mut buffer[0..n]) < n {
         return Next::Broken;
     }
     Next::Entry(octets::byte_from(&head, 0, 0), n)
@@ -610,39 +612,62 @@ fn play_next(
 }
 
 // Plays and prints what stands next. A run whose text cannot be written ends.
-fn turn(buffer: &mut [u8], table: &mut [u8], roll: &mut [u8], state: State, out: &mut [u8]) -> State
+fn turn(
+    input: &mut impl io::Read,
+    rt: &(impl Print + Eprint),
+    buffer: &mut [u8],
+    table: &mut [u8],
+    roll: &mut [u8],
+    state: State,
+    out: &mut [u8],
+) -> State
     requires longest_in_bounds { longest ≤ length out.old }
     requires lent_within { LentWithin state table.old roll.old }
     ensures { LentWithin result table.new roll.new }
 {
-    let next = read_next(buffer);
+    let next = read_next(input, buffer);
     let ran = play_next(next, buffer, table, roll, state, out);
     let end = ran.end;
-    if lines::print(&out[..end]) {
+    if lines::print(rt, &out[..end]) {
         return ran.state;
     }
     nothing(false)
 }
 
-// A proved loop has to end, and nothing says that a tape does: the turns count down from a number
-// that no run uses up.
-fn play(buffer: &mut [u8], table: &mut [u8], roll: &mut [u8], out: &mut [u8])
+// A proved loop has to end, and nothing says that a tape does: the turns are counted up to a number that no run
+// reaches.
+fn play(
+    input: &mut impl io::Read,
+    rt: &(impl Print + Eprint),
+    buffer: &mut [u8],
+    table: &mut [u8],
+    roll: &mut [u8],
+    out: &mut [u8],
+)
     requires { longest ≤ length out.old }
 {
     let mut state = nothing(true);
-    let mut turns = u64::MAX;
-    while turns > 0 && state.on {
-        state = turn(buffer, table, roll, state, out);
-        turns -= 1;
+    for _ in 0..u64::MAX {
+        if !state.on {
+            break;
+        }
+        state = turn(input, rt, buffer, table, roll, state, out);
     }
 }
 
 // The longest body, table, roll and text that a tape may have. A table of 2,097,247 bytes has two rows more than
 // the 65,536 that a ledger may use, and 31 bytes; a roll of 131,167 bytes two more than 4,096, and 31.
-fn main() {
+fn main(rt: HostRuntime) {
     let mut buffer = [0u8; 131072];
     let mut table = [0u8; 2097247];
     let mut roll = [0u8; 131167];
     let mut out = [0u8; 219136];
-    play(&mut buffer, &mut table, &mut roll, &mut out);
+    play(
+        &mut rt.stdin(),
+        &rt,
+        &mut buffer,
+        &mut table,
+        &mut roll,
+        &mut out,
+    );
 }

@@ -3,6 +3,8 @@
 // `scanning`. A length from 2^31 on is that of a name, which has a line of its own. Which bytes those lines
 // are is the contract of `put_next`. A program has one stored run, and this one's holds as many bags as
 // there are edges to show.
+#![tactic(auto)]
+
 ghost use Rattle.std.specs.Prelude.{◌≡◌, ◌≤◌, length};
 ghost use Rattle.refusals.specs.Rules.{answer};
 ghost use Rattle.text.specs.Words.{ascii, name_line};
@@ -10,8 +12,8 @@ ghost use Rattle.text.specs.Answers.{answer_line};
 ghost use Rattle.text.specs.Pen.{Rendered};
 ghost use Rattle.tray.specs.Tray.{Whole, more_may_follow, lines_for};
 
-use libc::STDIN_FILENO;
 use refusals::Answer;
+use std::io::Read;
 
 // What comes next on the tray: a bag and its length, a name and its length, the end, or nothing whole.
 #[derive(Clone, Copy)]
@@ -23,20 +25,20 @@ pub enum Next {
 }
 
 // Reads the n bytes of a bag to the start of a buffer.
-fn read_bag(buffer: &mut [u8], n: usize) -> Next
+fn read_bag(input: &mut impl Read, buffer: &mut [u8], n: usize) -> Next
     ensures { Whole result buffer.new }
 {
     if buffer.len() < n {
         return Next::Broken;
     }
-    if io::read_full(STDIN_FILENO, &mut buffer[0..n]) < n {
+    if lines::read_full(input, &mut buffer[0..n]) < n {
         return Next::Broken;
     }
     Next::Bag(n)
 }
 
 // Reads the bytes of a name, at most 100.
-fn read_name(buffer: &mut [u8], n: usize) -> Next
+fn read_name(input: &mut impl Read, buffer: &mut [u8], n: usize) -> Next
     ensures { Whole result buffer.new }
 {
     if 100 < n {
@@ -45,7 +47,7 @@ fn read_name(buffer: &mut [u8], n: usize) -> Next
     if buffer.len() < n {
         return Next::Broken;
     }
-    if io::read_full(STDIN_FILENO, &mut buffer[0..n]) < n {
+    if lines::read_full(input, &mut buffer[0..n]) < n {
         return Next::Broken;
     }
     Next::Name(n)
@@ -53,11 +55,11 @@ fn read_name(buffer: &mut [u8], n: usize) -> Next
 
 // Reads what comes next to the start of a buffer as long as the longest bag. A read that fails counts as
 // the tray's end.
-fn read_next(buffer: &mut [u8]) -> Next
+fn read_next(input: &mut impl Read, buffer: &mut [u8]) -> Next
     ensures { Whole result buffer.new }
 {
     let mut head = [0u8; 4];
-    let got = io::read_full(STDIN_FILENO, &mut head);
+    let got = lines::read_full(input, &mut head);
     if got == 0 {
         return Next::End;
     }
@@ -66,9 +68,9 @@ fn read_next(buffer: &mut [u8]) -> Next
     }
     let n = octets::le32(&head, 0) as usize;
     if n < 2147483648 {
-        return read_bag(buffer, n);
+        return read_bag(input, buffer, n);
     }
-    read_name(buffer, n - 2147483648)
+    read_name(input, buffer, n - 2147483648)
 }
 
 fn goes_on(next: Next) -> bool
@@ -111,26 +113,25 @@ fn put_next(next: Next, buffer: &[u8], out: &mut [u8; 640]) -> usize
 }
 
 // One bag or name, and whether the run goes on after it.
-fn turn(buffer: &mut [u8]) -> bool {
-    let next = read_next(buffer);
+fn turn(input: &mut impl Read, rt: &(impl Print + Eprint), buffer: &mut [u8]) -> bool {
+    let next = read_next(input, buffer);
     let mut out = [0u8; 640];
     let end = put_next(next, buffer, &mut out);
-    lines::print(&out[..end]) && goes_on(next)
+    lines::print(rt, &out[..end]) && goes_on(next)
 }
 
-// A proved loop has to end, and nothing says that a tray does: the turns count down from a number that
-// no run uses up.
-fn play(buffer: &mut [u8]) {
-    let mut on = true;
-    let mut turns = u64::MAX;
-    while turns > 0 && on {
-        on = turn(buffer);
-        turns -= 1;
+// A proved loop has to end, and nothing says that a tray does: the turns are counted up to a number that no run
+// reaches.
+fn play(input: &mut impl Read, rt: &(impl Print + Eprint), buffer: &mut [u8]) {
+    for _ in 0..u64::MAX {
+        if !turn(input, rt, buffer) {
+            break;
+        }
     }
 }
 
 // A byte more than a bag may have, so that a bag that is too long can be refused by its layout.
-fn main() {
+fn main(rt: HostRuntime) {
     let mut buffer = [0u8; 65537];
-    play(&mut buffer);
+    play(&mut rt.stdin(), &rt, &mut buffer);
 }

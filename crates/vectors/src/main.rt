@@ -1,6 +1,8 @@
 // Runs the published vectors of the standards and of the Zcash network, and lengths at which padding
 // turns over, and prints a line for each. The stored output was made by other implementations.
 // The hashes and the tree are left to the crates that have them.
+#![tactic(auto)]
+
 ghost use Rattle.std.specs.Prelude.{◌+◌, ◌*◌, ◌≤◌, length};
 ghost use Rattle.text.specs.Pen.{pen, Wrote, Rendered};
 ghost use Rattle.vectors.specs.Lines.{digest_line, refused_line};
@@ -38,87 +40,89 @@ fn render_refused(out: &mut [u8; 256], name: &[u8]) -> usize
     put_refused(out, name)
 }
 
-fn digest(name: &[u8], bytes: &[u8])
+fn digest(rt: &(impl Print + Eprint), name: &[u8], bytes: &[u8])
     requires { length name.now + 2 * length bytes.now ≤ 254 }
 {
     let mut line = [0u8; 256];
     let end = render_digest(&mut line, name, bytes);
-    lines::print(&line[..end]);
+    lines::print(rt, &line[..end]);
 }
 
-fn refused(name: &[u8])
+fn refused(rt: &(impl Print + Eprint), name: &[u8])
     requires { length name.now ≤ 64 }
 {
     let mut line = [0u8; 256];
     let end = render_refused(&mut line, name);
-    lines::print(&line[..end]);
+    lines::print(rt, &line[..end]);
 }
 
-fn sha(name: &[u8], message: &[u8])
+fn sha(rt: &(impl Print + Eprint), name: &[u8], message: &[u8])
     requires { length name.now ≤ 64 }
 {
     let d = sha256::hash(message);
-    digest(name, &d);
+    digest(rt, name, &d);
 }
 
 // The first bytes, or all where there are no more.
-fn start(name: &[u8], bytes: [u8; 64], most: usize)
+fn start(rt: &(impl Print + Eprint), name: &[u8], bytes: [u8; 64], most: usize)
     requires { length name.now ≤ 64 }
 {
     if most <= 64 {
-        digest(name, &bytes[..most]);
+        digest(rt, name, &bytes[..most]);
     } else {
-        digest(name, &bytes);
+        digest(rt, name, &bytes);
     }
 }
 
-fn blake(name: &[u8], message: &[u8], size: usize)
+fn blake(rt: &(impl Print + Eprint), name: &[u8], message: &[u8], size: usize)
     requires { length name.now ≤ 64 }
 {
     let answer = blake2b::hash(message, &[0u8; 16], size);
     if answer.ok {
         let bytes = answer.bytes;
-        start(name, bytes, size);
+        start(rt, name, bytes, size);
     } else {
-        refused(name);
+        refused(rt, name);
     }
 }
 
 // FIPS 180-4's examples, and messages of as many a's as the name says.
-fn sha_vectors() {
-    sha(b"sha256 empty", b"");
-    sha(b"sha256 abc", b"abc");
+fn sha_vectors(rt: &(impl Print + Eprint)) {
+    sha(rt, b"sha256 empty", b"");
+    sha(rt, b"sha256 abc", b"abc");
     sha(
+        rt,
         b"sha256 448 bits",
         b"abcdbcdecdefdefgefghfghighijhijkijkljklmklmnlmnomnopnopq",
     );
     sha(
+        rt,
         b"sha256 896 bits",
         b"abcdefghbcdefghicdefghijdefghijkefghijklfghijklmghijklmnhijklmnoijklmnopjklmnopqklmnopqrlmnopqrsmnopqrstnopqrstu",
     );
     let a = [97u8; 129];
-    sha(b"sha256 a 55", &a[0..55]);
-    sha(b"sha256 a 56", &a[0..56]);
-    sha(b"sha256 a 63", &a[0..63]);
-    sha(b"sha256 a 64", &a[0..64]);
-    sha(b"sha256 a 65", &a[0..65]);
-    sha(b"sha256 a 111", &a[0..111]);
-    sha(b"sha256 a 112", &a[0..112]);
-    sha(b"sha256 a 127", &a[0..127]);
-    sha(b"sha256 a 128", &a[0..128]);
-    sha(b"sha256 a 129", &a[0..129]);
+    sha(rt, b"sha256 a 55", &a[0..55]);
+    sha(rt, b"sha256 a 56", &a[0..56]);
+    sha(rt, b"sha256 a 63", &a[0..63]);
+    sha(rt, b"sha256 a 64", &a[0..64]);
+    sha(rt, b"sha256 a 65", &a[0..65]);
+    sha(rt, b"sha256 a 111", &a[0..111]);
+    sha(rt, b"sha256 a 112", &a[0..112]);
+    sha(rt, b"sha256 a 127", &a[0..127]);
+    sha(rt, b"sha256 a 128", &a[0..128]);
+    sha(rt, b"sha256 a 129", &a[0..129]);
 }
 
-fn million() {
+fn million(rt: &(impl Print + Eprint)) {
     let a = [97u8; 1000000];
-    sha(b"sha256 a 1000000", &a);
+    sha(rt, b"sha256 a 1000000", &a);
 }
 
 // One block from the standard start value, with no padding.
-fn compress_vectors() {
+fn compress_vectors(rt: &(impl Print + Eprint)) {
     let zeros = [0u8; 64];
     let d = sha256::compress(&zeros);
-    digest(b"compress zeros", &d);
+    digest(rt, b"compress zeros", &d);
     let mut abc = [0u8; 64];
     abc[0] = 97;
     abc[1] = 98;
@@ -126,10 +130,10 @@ fn compress_vectors() {
     abc[3] = 0x80;
     abc[63] = 24;
     let e = sha256::compress(&abc);
-    digest(b"compress abc", &e);
+    digest(rt, b"compress abc", &e);
     let left = [0u8; 32];
     let f = sha256::compress_halves(&left, &left);
-    digest(b"compress halves zeros", &f);
+    digest(rt, b"compress halves zeros", &f);
 }
 
 // The 255 bytes 00, 01 and on to fe.
@@ -142,51 +146,51 @@ fn counted() -> [u8; 255] {
 }
 
 // RFC 7693 and the BLAKE2 reference.
-fn blake_published() {
-    blake(b"blake2b-64 abc", b"abc", 64);
-    blake(b"blake2b-64 empty", b"", 64);
-    blake(b"blake2b-32 empty", b"", 32);
+fn blake_published(rt: &(impl Print + Eprint)) {
+    blake(rt, b"blake2b-64 abc", b"abc", 64);
+    blake(rt, b"blake2b-64 empty", b"", 64);
+    blake(rt, b"blake2b-32 empty", b"", 32);
     let bytes = counted();
-    blake(b"blake2b-64 00..fe", &bytes, 64);
+    blake(rt, b"blake2b-64 00..fe", &bytes, 64);
 }
 
 // Around the block's 128 bytes, other digest lengths, and the two lengths that are refused.
-fn blake_edges() {
+fn blake_edges(rt: &(impl Print + Eprint)) {
     let a = [97u8; 257];
-    blake(b"blake2b-64 a 111", &a[0..111], 64);
-    blake(b"blake2b-64 a 112", &a[0..112], 64);
-    blake(b"blake2b-64 a 127", &a[0..127], 64);
-    blake(b"blake2b-64 a 128", &a[0..128], 64);
-    blake(b"blake2b-64 a 129", &a[0..129], 64);
-    blake(b"blake2b-20 a 256", &a[0..256], 20);
-    blake(b"blake2b-1 a 257", &a, 1);
-    blake(b"blake2b-0 abc", b"abc", 0);
-    blake(b"blake2b-65 abc", b"abc", 65);
+    blake(rt, b"blake2b-64 a 111", &a[0..111], 64);
+    blake(rt, b"blake2b-64 a 112", &a[0..112], 64);
+    blake(rt, b"blake2b-64 a 127", &a[0..127], 64);
+    blake(rt, b"blake2b-64 a 128", &a[0..128], 64);
+    blake(rt, b"blake2b-64 a 129", &a[0..129], 64);
+    blake(rt, b"blake2b-20 a 256", &a[0..256], 20);
+    blake(rt, b"blake2b-1 a 257", &a, 1);
+    blake(rt, b"blake2b-0 abc", b"abc", 0);
+    blake(rt, b"blake2b-65 abc", b"abc", 65);
 }
 
 // h_sig: the public node's own test, and all zero bytes.
-fn h_sig_vectors() {
+fn h_sig_vectors(rt: &(impl Print + Eprint)) {
     let d = sprout::h_sig(&[0x61u8; 32], &[0x62u8; 32], &[0x63u8; 32], &[0x64u8; 32]);
-    digest(b"h_sig 61 62 63 64", &d);
+    digest(rt, b"hSig 61 62 63 64", &d);
     let zeros = [0u8; 32];
     let e = sprout::h_sig(&zeros, &zeros, &zeros, &zeros);
-    digest(b"h_sig zeros", &e);
+    digest(rt, b"hSig zeros", &e);
 }
 
 // The empty tree's root, which the network published, from the table of empty roots and from a fresh
 // record; and the root after three leaves.
-fn tree_vectors() {
+fn tree_vectors(rt: &(impl Print + Eprint)) {
     let from_table = nodes::empty_root(29);
-    digest(b"root empty", &from_table);
+    digest(rt, b"root empty", &from_table);
     let fresh = Tree::fresh();
     let from_record = fresh.root();
-    digest(b"root fresh", &from_record);
+    digest(rt, b"root fresh", &from_record);
     let three = fresh
         .with_leaf([1u8; 32])
         .with_leaf([2u8; 32])
         .with_leaf([3u8; 32]);
     let d = three.root();
-    digest(b"root 01 02 03", &d);
+    digest(rt, b"root 01 02 03", &d);
 }
 
 // The parent of a node that has an empty subtree of its level to its right.
@@ -197,7 +201,7 @@ fn above(node: [u8; 32], level: usize) -> [u8; 32] {
 
 // Two roots of the public node's own tests, of trees of depth 4 whose left and right differ. It prints
 // leaves in reverse; here the bytes are in order.
-fn parent_vectors() {
+fn parent_vectors(rt: &(impl Print + Eprint)) {
     let one = [
         0x62, 0xfd, 0xad, 0x9b, 0xfb, 0xf1, 0x7c, 0x38, 0xea, 0x62, 0x6a, 0x9c, 0x9b, 0x8a, 0xf8,
         0xa7, 0x48, 0xe6, 0xb4, 0x36, 0x7c, 0x84, 0x94, 0xca, 0xf0, 0xca, 0x59, 0x29, 0x99, 0xe8,
@@ -209,31 +213,31 @@ fn parent_vectors() {
         0xc9, 0x43,
     ];
     let alone = above(above(above(above(one, 0), 1), 2), 3);
-    digest(b"root depth 4 one leaf", &alone);
+    digest(rt, b"root depth 4 one leaf", &alone);
     let both = nodes::parent(&one, &two);
     let beside = above(above(above(both, 1), 2), 3);
-    digest(b"root depth 4 two leaves", &beside);
+    digest(rt, b"root depth 4 two leaves", &beside);
 }
 
 // A spending key of the public node's own tests, and the address that its payment address begins with.
-fn address_vector() {
+fn address_vector(rt: &(impl Print + Eprint)) {
     let key = [
         0x0b, 0xbb, 0xa5, 0x71, 0x2b, 0xf4, 0x3c, 0x9d, 0xf6, 0xa7, 0x2f, 0x03, 0x62, 0x66, 0xaf,
         0xfb, 0xca, 0x9c, 0xa1, 0xc2, 0x49, 0x9a, 0x93, 0x1d, 0x81, 0x7d, 0xf1, 0xdd, 0x5e, 0x4a,
         0x08, 0xd1,
     ];
     let address = sprout::address(&key);
-    digest(b"address of a key", &address);
+    digest(rt, b"address of a key", &address);
 }
 
-fn main() {
-    sha_vectors();
-    million();
-    compress_vectors();
-    blake_published();
-    blake_edges();
-    h_sig_vectors();
-    tree_vectors();
-    parent_vectors();
-    address_vector();
+fn main(rt: HostRuntime) {
+    sha_vectors(&rt);
+    million(&rt);
+    compress_vectors(&rt);
+    blake_published(&rt);
+    blake_edges(&rt);
+    h_sig_vectors(&rt);
+    tree_vectors(&rt);
+    parent_vectors(&rt);
+    address_vector(&rt);
 }

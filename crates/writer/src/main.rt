@@ -1,9 +1,9 @@
 // The writer: a form from standard input, and on standard output the desk's answer and the case, or what is wrong with
 // the form. Which bytes those are is the contract of `writing::print_form`; that these bytes are read and those are
 // written cannot be said in a contract, so the stored run holds it.
-ghost use Rattle.std.specs.Prelude.{◌≡◌, length};
+#![tactic(auto)]
 
-use libc::STDIN_FILENO;
+ghost use Rattle.std.specs.Prelude.{◌≡◌, length};
 
 // A byte more than a form may have: what fills it is too long, however it goes on.
 fn input_buffer() -> [u8; 65537]
@@ -12,10 +12,10 @@ fn input_buffer() -> [u8; 65537]
     [0; 65537]
 }
 
-fn main() {
+fn main(rt: HostRuntime) {
     let mut input = input_buffer();
-    let n = io::read_full(STDIN_FILENO, &mut input);
+    let n = lines::read_full(&mut rt.stdin(), &mut input);
     let mut out = [0u8; 4257];
     let end = writing::print_form(&input[..n], &mut out);
-    lines::print(&out[..end]);
+    lines::print(&rt, &out[..end]);
 }

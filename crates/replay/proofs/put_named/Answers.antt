@@ -1,0 +1,6 @@
+use Rattle.std.proofs.Common.{refl, arith, rules}
+use Rattle.text.proofs.PenLaws.{then, text_as}
+use Rattle.replay.proofs.put_named.Goals as goal
+
+pub returns : goal.returns
+returns c = text_as (omega arith) refl (then c.put-next.ensures c.put_hex.ensures)

@@ -12,7 +12,10 @@ from dataclasses import dataclass
 FUNCTION = re.compile(r'(\s*)(pub )?(?:extern "C" )?fn (\w+)')
 CONSTANT = re.compile(r"(?:pub )?const (\w+)\b")
 ADDED_TYPE = re.compile(r"struct (\w+)\(.*\); impl \1 \{ fn ")
+ONE_LINE = re.compile(r"^(fn .*?\)(?: -> [^{\n]+?)?)((?:\nrequires)*) \{ (.*) \}$", re.M)
+CLAUSE = re.compile(r"[ \n]+(requires|ensures)(?: \w+)? \{")
 COUNTED = {("judge", "compare")}  # functions whose calls are counted, each by its crate
+ENDLESS = {("slices", "ancestor")}  # functions that take as many turns as they are told, so that none is drawn
 NUMBER = re.compile(r"^(?:pub )?const (\w+): \w+ = (\d+);", re.M)
 
 
@@ -53,22 +56,26 @@ def numbers_of(texts):
     return {m[1]: int(m[2]) for files in texts.values() for text in files.values() for m in NUMBER.finditer(text)}
 
 
+def without_clauses(text):
+    """A text whose contracts leave nothing but a line `requires` where there is one; a clause ends with its bracket."""
+    kept, at = "", 0
+    while m := CLAUSE.search(text, at):
+        depth, end = 1, m.end()
+        while depth:
+            depth += {"{": 1, "}": -1}.get(text[end], 0)
+            end += 1
+        kept += text[at : m.start()] + ("\nrequires" if m[1] == "requires" else "")
+        at = end
+    return kept + text[at:]
+
+
 def without_proofs(text):
-    """The lines of a file but for ghost lines, contracts and comments; a contract leaves `requires` or nothing."""
+    """The lines of a file but for ghost lines, attributes, contracts and comments; a contract leaves `requires` or nothing."""
     # A wrong version may have a whole function on one line, or a type with one function of its own.
     text = re.sub(r"(ghost use [^;]*;) +(?=\S)", r"\1\n", text)
-    text = re.sub(r"^(fn .*?) ((?:requires|ensures) \{.*⌝ \}) \{ (.*) \}$", r"\1\n\2\n{\n\3\n}", text, flags=re.M)
-    text = re.sub(r"^(struct \w+\(.*\); impl .*?) (?:requires|ensures) \{.*⌝ \} (\{ .* \} \})$", r"\1 \2", text, flags=re.M)
-    lines, depth = [], 0
-    for line in text.split("\n"):
-        start = re.match(r"\s*(requires|ensures) \{", line)
-        if depth == 0 and start and start[1] == "requires":
-            lines.append("requires")
-        if start or depth:
-            depth += line.count("{") - line.count("}")
-        elif not re.match(r"\s*(ghost |//)", line):
-            lines.append(line)
-    return lines
+    text = re.sub(r"^struct .*$", lambda m: without_clauses(m[0]).replace("\nrequires", ""), text, flags=re.M)
+    text = ONE_LINE.sub(r"\1\2\n{\n\3\n}", without_clauses(text))
+    return [line for line in text.split("\n") if not re.match(r"\s*(ghost |//|#!?\[)", line)]
 
 
 def items_of(text):
@@ -185,7 +192,7 @@ def plain(crate, modules, text):
     text = text.replace("std::num::wrapping_add_u64(", "u64::wrapping_add(")
     text = re.sub(r"std::num::nearest_u64_to_f64\((.*)\);", r"(\1) as f64;", text)
     text = re.sub(r"^(\s*)while (.*) \{$", r"\1while crate::turn() && (\2) {", text, flags=re.M)
-    text = text.replace('extern "C" ', "").replace("#[no_mangle]", "")
+    text = text.replace('extern "C" ', "")
     text = re.sub(r"^(\s*)(?:pub )?(struct|enum|fn|const|mod) ", r"\1pub \2 ", text, flags=re.M)
     return re.sub(r"^pub (struct|enum) ", r"#[derive(Clone, Copy, Debug)]\npub \1 ", text, flags=re.M)
 
@@ -212,7 +219,7 @@ def rust_of(crate, modules, items, variants, added):
         put(f"_ => {{\n{plain(crate, modules, item.body)}\n}} }} }}")
     put(plain(crate, modules, added))
     put(drawn_types("\n".join(i.head for i in items if not i.name)))
-    calls = [call_of(i) for i in items if i.is_function and not i.asks]
+    calls = [call_of(i) for i in items if i.is_function and not i.asks and (crate, i.name) not in ENDLESS]
     if any(i.name == "main" for i in items):
         calls = [MAIN] if any("read_full" in i.body for i in items) else []
     put("pub const CALLS: &[crate::Call] = &[\n" + "\n".join(calls) + "\n];")

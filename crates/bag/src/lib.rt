@@ -1,6 +1,8 @@
 // A bag: its layout, the seal in front, and the cases behind it, judged one after the other on one
 // ledger. What a seal's body says and whether it passes is left to `seal`, what becomes of a case
 // to `judge`.
+#![tactic(auto)]
+
 ghost use Rattle.std.specs.Prelude.{◌≡◌, true, ◌+◌, ◌≤◌, ◌<◌, [], length};
 ghost use Rattle.refusals.specs.Rules.{accepted};
 ghost use Rattle.bag.specs.Contents.{row_count, row_start, entry_of, kind_at, in_order, laid_out, body_of, cases_of};

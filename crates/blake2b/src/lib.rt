@@ -1,6 +1,8 @@
 // BLAKE2b with no key (RFC 7693): the digest of a message of any length, under a personalization of
 // 16 bytes. The work vector v is changed in place from function to function, since the compiler then
 // keeps it in registers. What is hashed, and under which name, is left to the crates above.
+#![tactic(auto)]
+
 ghost use Rattle.std.specs.Prelude.{◌≡◌, ◌+◌, ◌-◌, ◌*◌, ◌%◌, ◌^◌, ◌<◌, ◌≤◌, ◌++◌, length, slice_index};
 ghost use Rattle.octets.specs.Parts.{zeros, listed, field};
 ghost use Rattle.blake2b.specs.Compression.{rotr as rotr_of, plus as plus_of, turn as turn_of, half as half_of, G, sigma, picked, step as step_of, columns as columns_of, diagonals as diagonals_of, round as round_of, rounds as rounds_of, word_at, bytes_of, flag as flag_of, start as start_of, feed as feed_of, F};

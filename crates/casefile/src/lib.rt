@@ -2,6 +2,8 @@
 // any slice: where the file has ended it reads zeros, so that no length has to be checked first. Offsets are
 // the definition's (specs/Layout.antt), which the proofs compute; behind the proof they are sums over its
 // length, in which the two editions differ. What the fields must satisfy is left to `statement`.
+#![tactic(auto)]
+
 ghost use Rattle.std.specs.Prelude.{◌≡◌, ◌+◌, ◌≤◌};
 ghost use Rattle.units.specs.Pairs.{number_of, of_pair};
 ghost use Rattle.casefile.specs.Layout.{proof_length, present_of, nullifier as nullifier_field, commitment as commitment_field, tag as tag_field, of_old, of_new};

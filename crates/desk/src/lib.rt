@@ -1,6 +1,8 @@
 // The desk: from a draft, which has all that its holder chooses, the whole case, with what is worked out of it.
 // A draft is a file in the case's own layout (docs/FORMATS.md); its fields that are worked out are not read.
 // What a case must satisfy is left to `statement`, the hashes to `sprout`, and where a field lies to `casefile`.
+#![tactic(auto)]
+
 ghost use Rattle.std.specs.Prelude.{◌≡◌, cond, length};
 ghost use Rattle.units.specs.Pairs.{number_of};
 ghost use Rattle.refusals.specs.Rules.{first, rules_in, is_accepted};

@@ -2,6 +2,8 @@
 // keeps a ledger in three buffers, its own 988 bytes, its table and its roll; nothing is kept here from
 // call to call. Each call leaves the work to the crates below; of the ledger's bytes it reads what is asked
 // for, and writes back what changed.
+#![tactic(auto)]
+
 ghost use Rattle.std.specs.Prelude.{◌≡◌};
 ghost use Rattle.std.specs.Float.{binary64};
 ghost use Rattle.std.specs.Float.Ieee.{to_bits};
@@ -27,8 +29,7 @@ pub fn code(a: Answer) -> u32
 }
 
 // Opens a fresh ledger. The table needs no byte of its own.
-#[unsafe(no_mangle)]
-pub extern "C" fn snaldrek_proved_open(ledger: &mut [u8], roll: &mut [u8]) -> u32
+pub fn snaldrek_proved_open(ledger: &mut [u8], roll: &mut [u8]) -> u32
     ensures value { result ≡ code_of (open_answer ledger.old roll.old) }
     ensures ledger_after { ledger.new ≡ ledger_after_open_call ledger.old roll.old }
     ensures roll_after { roll.new ≡ roll_after_open_call ledger.old roll.old }
@@ -42,13 +43,7 @@ pub extern "C" fn snaldrek_proved_open(ledger: &mut [u8], roll: &mut [u8]) -> u3
 }
 
 // Judges one case; an accepted one is entered.
-#[unsafe(no_mangle)]
-pub extern "C" fn snaldrek_proved_judge(
-    case: &[u8],
-    ledger: &mut [u8],
-    table: &mut [u8],
-    roll: &[u8],
-) -> u32
+pub fn snaldrek_proved_judge(case: &[u8], ledger: &mut [u8], table: &mut [u8], roll: &[u8]) -> u32
     ensures value { result ≡ code_of (judge_answer case.now ledger.old table.old roll.now) }
     ensures ledger_after { ledger.new ≡ ledger_after_judge_call case.now ledger.old table.old roll.now }
     ensures table_after { table.new ≡ table_after_judge_call case.now ledger.old table.old roll.now }
@@ -60,8 +55,7 @@ pub extern "C" fn snaldrek_proved_judge(
 }
 
 // Closes a block.
-#[unsafe(no_mangle)]
-pub extern "C" fn snaldrek_proved_close(ledger: &mut [u8], table: &[u8], roll: &mut [u8]) -> u32
+pub fn snaldrek_proved_close(ledger: &mut [u8], table: &[u8], roll: &mut [u8]) -> u32
     ensures value { result ≡ code_of (close_answer ledger.old table.now roll.old) }
     ensures ledger_after { ledger.new ≡ ledger_after_close_call ledger.old table.now roll.old }
     ensures roll_after { roll.new ≡ roll_after_close_call ledger.old table.now roll.old }
@@ -73,8 +67,7 @@ pub extern "C" fn snaldrek_proved_close(ledger: &mut [u8], table: &[u8], roll: &
 }
 
 // The root that a block closed now would put on the roll.
-#[unsafe(no_mangle)]
-pub extern "C" fn snaldrek_proved_root(ledger: &[u8], root: &mut [u8]) -> u32
+pub fn snaldrek_proved_root(ledger: &[u8], root: &mut [u8]) -> u32
     ensures value { result ≡ code_of (root_answer ledger.now root.old) }
     ensures root_after { root.new ≡ root_after ledger.now root.old }
 {
@@ -92,8 +85,7 @@ pub extern "C" fn snaldrek_proved_root(ledger: &[u8], root: &mut [u8]) -> u32
 }
 
 // The SHA-256 of any bytes, by which a host recognises a stored ledger that is torn.
-#[unsafe(no_mangle)]
-pub extern "C" fn snaldrek_proved_hash(bytes: &[u8], digest: &mut [u8]) -> u32
+pub fn snaldrek_proved_hash(bytes: &[u8], digest: &mut [u8]) -> u32
     ensures value { result ≡ code_of (hash_answer digest.old) }
     ensures digest_after { digest.new ≡ hash_after bytes.now digest.old }
 {
@@ -134,8 +126,7 @@ fn hand_out(sealed: Sealed, pull: &mut [u8]) -> u32
 }
 
 // Judges a seal's body. The pull is handed out as eight bytes, so that all its bits are promised.
-#[unsafe(no_mangle)]
-pub extern "C" fn snaldrek_proved_seal(body: &[u8], gain: f64, offset: f64, pull: &mut [u8]) -> u32
+pub fn snaldrek_proved_seal(body: &[u8], gain: f64, offset: f64, pull: &mut [u8]) -> u32
     ensures value { result ≡ code_of (body_answer (record { gain = gain; offset = offset }) body.now pull.old) }
     ensures pull_after { pull.new ≡ pull_after (record { gain = gain; offset = offset }) body.now pull.old }
 {
@@ -190,8 +181,7 @@ fn own_answer(scanned: Scanned) -> Answer
 }
 
 // Judges a bag: its layout, its seal, and each of its cases, which the report tells of.
-#[unsafe(no_mangle)]
-pub extern "C" fn snaldrek_proved_bag(
+pub fn snaldrek_proved_bag(
     bag: &[u8],
     gain: f64,
     offset: f64,
@@ -248,8 +238,7 @@ fn tally_bytes(tally: Tally) -> [u8; 12]
 }
 
 // Counts an answer, in the form that the other calls give it.
-#[unsafe(no_mangle)]
-pub extern "C" fn snaldrek_proved_tally(tally: &mut [u8], answer: u32) -> u32
+pub fn snaldrek_proved_tally(tally: &mut [u8], answer: u32) -> u32
     ensures value { result ≡ code_of (tally_answer tally.old answer) }
     ensures tally_after { tally.new ≡ tally_after tally.old answer }
 {
@@ -292,8 +281,7 @@ fn is_answer(answer: u32) -> bool
 }
 
 // Rewrites one row of the day list by an answer that a call returned. Anything else is refused.
-#[unsafe(no_mangle)]
-pub extern "C" fn snaldrek_proved_day(list: &mut [u8], row: usize, seal: u32, answer: u32) -> u32
+pub fn snaldrek_proved_day(list: &mut [u8], row: usize, seal: u32, answer: u32) -> u32
     ensures value { result ≡ code_of (day_answer row answer list.old) }
     ensures list_after { list.new ≡ day_after row seal answer list.old }
 {

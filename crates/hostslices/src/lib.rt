@@ -1,5 +1,7 @@
 // The C functions by which a host judges a case in steps, reached by way of entry/calls.c. They stand apart from `host`,
 // and so in an object file of their own: the compiler makes the judge's code as if there were no steps beside it.
+#![tactic(auto)]
+
 ghost use Rattle.std.specs.Prelude.{◌≡◌};
 ghost use Rattle.host.specs.Answers.{code_of};
 ghost use Rattle.hostslices.specs.StepCalls.{begin_call_answer, record_after_begin_call, step_call_answer, record_after_step_call, ledger_after_step_call, table_after_step_call};
@@ -9,8 +11,7 @@ use refusals::Answer;
 use slices::JUDGEMENT_LENGTH;
 
 // Takes a case into a judgement, and takes its first step.
-#[unsafe(no_mangle)]
-pub extern "C" fn snaldrek_proved_begin(case: &[u8], judgement: &mut [u8]) -> u32
+pub fn snaldrek_proved_begin(case: &[u8], judgement: &mut [u8]) -> u32
     ensures value { result ≡ code_of (begin_call_answer case.now judgement.old) }
     ensures judgement_after { judgement.new ≡ record_after_begin_call case.now judgement.old }
 {
@@ -21,8 +22,7 @@ pub extern "C" fn snaldrek_proved_begin(case: &[u8], judgement: &mut [u8]) -> u3
 }
 
 // Takes a judgement's next step; the last one asks the ledger, and enters an accepted case.
-#[unsafe(no_mangle)]
-pub extern "C" fn snaldrek_proved_step(
+pub fn snaldrek_proved_step(
     judgement: &mut [u8],
     ledger: &mut [u8],
     table: &mut [u8],

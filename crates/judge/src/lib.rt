@@ -2,6 +2,8 @@
 // refusals' numbers and stops at the first that applies; an accepted case is entered. Asking and entering
 // are private to this crate, so that nothing is entered that was not asked about. What must hold of a
 // case alone stands in `statement`, what a ledger is in `ledger`; nothing of either is repeated here.
+#![tactic(auto)]
+
 mod asking;
 mod entering;
 mod money;

@@ -1,6 +1,8 @@
 // What a ledger is: the counts, the tree record and the pool that are kept by value beside a nullifier
 // table and an anchor roll in lent memory, and the answers about them. The definitions and their laws
 // are here; the code that reads or writes a table or a roll is in `judge`.
+#![tactic(auto)]
+
 ghost use Rattle.std.specs.Prelude.{◌≡◌};
 ghost use Rattle.ledger.specs.Sorted.{is_less, is_equal};
 

@@ -1,6 +1,8 @@
 // A ledger as bytes: what it keeps beside its table and its roll, in a buffer of 988 bytes, for
 // callers that have nothing but memory to keep it in. Every 988 bytes are some ledger.
 // Whether it is damaged, and what may be done with it, is left to `ledger`.
+#![tactic(auto)]
+
 ghost use Rattle.std.specs.Prelude.{◌≡◌, ◌+◌, ◌≤◌};
 ghost use Rattle.octets.specs.Parts.{field};
 ghost use Rattle.octets.specs.Numbers.{little};

@@ -1,6 +1,8 @@
 // The nodes of the commitment tree: a parent, and the empty tree's root at each level. The theorems
 // on trees, paths and short records stand here too, over any type of nodes (proofs/TreeLaws.antt).
 // The record that a ledger keeps, and a path climbed, are left to `tree`.
+#![tactic(auto)]
+
 ghost use Rattle.std.specs.Prelude.{◌≡◌, min};
 ghost use Rattle.nodes.specs.CommitmentTree.{parent_of, empty_root};
 

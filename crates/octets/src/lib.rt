@@ -1,6 +1,8 @@
 // Bytes and numbers: reading and writing them in either byte order, parts of 32 bytes, equality,
 // copying in. Every reader is total: where the slice has ended it reads zeros.
 // What the bytes mean is left to the crates above.
+#![tactic(auto)]
+
 ghost use Rattle.std.specs.Prelude.{◌≡◌, [], ◌∷◌, ◌+◌, ◌-◌, ◌≤◌, ◌<◌, length, get_or};
 ghost use Rattle.octets.specs.Parts.{field, fits_in, pasted, same as same_of};
 ghost use Rattle.octets.specs.Numbers.{little, big, little_bytes, big_bytes};

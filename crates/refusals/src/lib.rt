@@ -1,6 +1,8 @@
 // What the scanner answers, and how a list of refusals is read: from the top, by the first rule
 // that applies. The laws about such lists stand in proofs/RuleLaws.antt.
 // Which rules there are is left to the crates that know a case or a ledger.
+#![tactic(auto)]
+
 ghost use Rattle.std.specs.Prelude.{◌≡◌};
 ghost use Rattle.refusals.specs.Rules.{accepted as accepted_of, answer, answer_in_row, not_given, is_accepted, refuses_up_to};
 

@@ -1,6 +1,8 @@
 // SHA-256 (FIPS 180-4): one compression of a block, from any state or from the standard start value,
 // and the whole hash of a message of any length, padding included.
 // What is hashed, and why, is left to the crates above.
+#![tactic(auto)]
+
 ghost use Rattle.std.specs.Prelude.{◌≡◌, ◌∷◌, ◌++◌, ◌+◌, ◌-◌, ◌*◌, ◌/◌, ◌%◌, ◌^◌, ◌≤◌, ◌<◌, length, get_or, set};
 ghost use Rattle.octets.specs.Parts.{zeros, listed};
 ghost use Rattle.octets.specs.Numbers.{big_bytes};

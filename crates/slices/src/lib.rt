@@ -1,6 +1,8 @@
 // A judgement in 60 short steps, on a record that a handset keeps: between two steps it polls its trigger, judges
 // other cases, or loses power and goes on later. Step 1 takes the case in, so that no later step is lent one. What
 // is asked of a case alone is left to `statement`, the ledger to `judge`, and one step up a path to `tree`.
+#![tactic(auto)]
+
 ghost use Rattle.std.specs.Prelude.{◌≡◌, ◌+◌, ◌/◌, ◌^◌, ◌<◌};
 ghost use Rattle.units.specs.Pairs.{number_of};
 ghost use Rattle.refusals.specs.Rules.{first, rules_in};

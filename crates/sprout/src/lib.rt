@@ -1,6 +1,8 @@
 // What is derived from a Sprout note and its keys: address, nullifier, tags, new rho, commitment
 // and h_sig, by document 01's section "Hashes", over the proved hashes.
 // What a case claims of them is left to `statement`, the tree to `tree`.
+#![tactic(auto)]
+
 ghost use Rattle.std.specs.Prelude.{◌≡◌, ◌<◌};
 ghost use Rattle.units.specs.Pairs.{number_of};
 ghost use Rattle.sprout.specs.Hashes.{mac_prefix, rho_prefix, with_prefix, has_top_bits, prefixed as prefixed_of, address_from, nullifier_from, mac_from, rho_from, note_bytes, commitment_from, bound_bytes, h_sig_from};

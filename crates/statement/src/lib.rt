@@ -1,6 +1,8 @@
 // What can be said of a case alone: refusals 1, 4, 5, 7 and 9 to 16 of document 01, asked in the
 // order of their numbers, up to the first that applies. Nothing is hashed before the cheap tests
 // have passed, and nothing is hashed twice. What a ledger has to say of a case is left to `judge`.
+#![tactic(auto)]
+
 ghost use Rattle.std.specs.Prelude.{◌≡◌, ◌+◌, ◌*◌, ◌^◌, ◌<◌, [], ◌∷◌};
 ghost use Rattle.units.specs.Pairs.{number_of};
 ghost use Rattle.refusals.specs.Rules.{first, rules_in};

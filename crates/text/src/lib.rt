@@ -1,6 +1,8 @@
 // Text as a value: words, numbers, bytes and answers, written one behind the other into memory that the
 // caller lends. Each function answers the next place, and stops at the end of the memory. What a whole
 // text is, and that it fits, is left to the crates above; so is what becomes of it.
+#![tactic(auto)]
+
 ghost use Rattle.std.specs.Prelude.{◌≡◌, ◌+◌, ◌*◌, ◌%◌, [], ◌∷◌, ◌++◌, length};
 ghost use Rattle.text.specs.Pen.{pen, Wrote};
 ghost use Rattle.text.specs.Decimal.{decimal};

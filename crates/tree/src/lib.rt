@@ -1,6 +1,8 @@
 // The commitment tree as a ledger and a case need it: the short record, to which a leaf is added, its
 // root, its bytes, and a path climbed from a leaf. That the record's root is the tree's, and that a leaf's
 // own path leads there, are theorems of proofs/Grown.antt. Which leaves there are is left to `ledger`.
+#![tactic(auto)]
+
 ghost use Rattle.std.specs.Prelude.{◌≡◌, ◌+◌, ◌≤◌, ◌<◌, ◌*◌, length};
 ghost use Rattle.octets.specs.Parts.{field, fits_in, pasted};
 ghost use Rattle.octets.specs.Rows.{rows_of, flat};

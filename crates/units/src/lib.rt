@@ -2,6 +2,8 @@
 // tree, a row of a table. Each is a type of its own with a private number, so that none can be taken for
 // another, and only the methods here compute with it. And which of a pair is meant. What is done with them
 // is left to the crates above.
+#![tactic(auto)]
+
 ghost use Rattle.std.specs.Prelude.{◌≡◌, ◌+◌, ◌-◌, ◌/◌, ◌%◌, ◌^◌, min, eqb, leb, ltb};
 ghost use Rattle.units.specs.Limits.{max_money, tree_leaves};
 ghost use Rattle.units.specs.Pairs.{number_of};

@@ -3,7 +3,6 @@ use lib.ListN.{length}
 use mathlib.Core.Path.{◌≡◌}
 use native.Mathlib.Omega.{arith}
 use Rattle.bag.specs.Contents.{body_of}
-use borrow.Author.Rules.{rules}
 use Rattle.bag.proofs.body.Goals as goal
 
 pub slice_bounds-result-end : goal.slice_bounds-result-end

@@ -1,6 +1,5 @@
 use native.Mathlib.Nat.{add-zero}
 use Rattle.bag.specs.Contents.{entry_of}
-use borrow.Author.Rules.{rules}
 use Rattle.bag.proofs.entry_at.Goals as goal
 
 pub returns : goal.returns

@@ -1,8 +1,7 @@
 -- Before each row, the whole table is in order exactly when the rows that are left are, read from the place where the next body must begin: a wrong kind or a wrong start says no, and no row left says yes.
-use Prim.Native.Nat.{◌+◌, ◌-◌, ◌*◌, ◌≤◌}
+use Prim.Native.Nat.{◌-◌}
 use mathlib.Core.Path.{◌≡◌, sym, ◌∙◌}
 use native.Mathlib.Omega.{arith}
-use Rattle.bag.specs.Contents.{row_start, in_order}
 use Rattle.bag.proofs.OrderLaws.{next_row, wrong_kind, wrong_start, all_rows}
 use borrow.Author.Rules.{rules}
 use Rattle.bag.proofs.is_in_order.Goals as goal

@@ -1,7 +1,6 @@
 use mathlib.Core.Path.{sym}
 use borrow.Author.Tests.{le-leb, lt-leb}
 use Rattle.bag.specs.Contents.{laid_out}
-use borrow.Author.Rules.{rules}
 use Rattle.bag.proofs.is_laid_out.Goals as goal
 
 pub returns-then-bag-gt-MOST_BYTES : goal.returns-then-bag-gt-MOST_BYTES

@@ -1,12 +1,8 @@
 -- Before row i the answers given so far stand in the array, and judging the bodies from row i on, from this table and ledger, gives what judging all cases gives (`Before`); one case judged is one turn of it.
-use lib.ListN.{length-set}
 use Prim.Native.Nat.{◌-◌, ◌≤◌}
-use mathlib.Core.Path.{◌≡◌, refl, ◌∙◌}
-use native.Mathlib.Omega.{arith}
+use mathlib.Core.Path.{◌≡◌}
 use lib.ListN.{length}
-use Rattle.bag.proofs.OrderLaws.{kept}
-use Rattle.bag.proofs.CaseLaws.{Before, start, turn, table_left, reported}
-use borrow.Author.Rules.{rules}
+use Rattle.bag.proofs.CaseLaws.{Before}
 use Rattle.bag.proofs.judge_cases.Given as goal
 
 abbrev pub invariant-loop-i : goal.invariant-loop-i

@@ -1,5 +1,4 @@
 use Rattle.bag.specs.Contents.{row_count}
-use borrow.Author.Rules.{rules}
 use Rattle.bag.proofs.row_count.Goals as goal
 
 pub returns : goal.returns

@@ -4,7 +4,6 @@ use Rattle.seal.specs.Pull.{seal_answer}
 use mathlib.Core.Path.{sym, ap, ◌∙◌}
 use borrow.Author.Tests.{not-true, not-false}
 use Rattle.bag.proofs.Outcomes.{has_layout, broken, stopped, passed}
-use borrow.Author.Rules.{rules}
 use Rattle.bag.proofs.scan.Goals as goal
 
 pub returns-then-not-is_accepted : goal.returns-then-not-is_accepted

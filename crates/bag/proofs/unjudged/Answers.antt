@@ -1,5 +1,4 @@
 use Rattle.bag.specs.SealAndCases.{seven_answers, report}
-use borrow.Author.Rules.{rules}
 use Rattle.bag.proofs.unjudged.Goals as goal
 
 pub returns : goal.returns

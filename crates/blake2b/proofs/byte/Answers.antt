@@ -1,4 +1,4 @@
-use Rattle.std.proofs.Common.{sym, rules}
+use Rattle.std.proofs.Common.{sym}
 use Rattle.blake2b.proofs.Bytes.{bytes_at}
 use Rattle.blake2b.proofs.byte.Goals as goal
 

@@ -1,8 +1,7 @@
 -- After i turns the array has the first i bytes of the state and zeros behind them; after 32 turns it is full.
-use Rattle.std.proofs.Common.{◌+◌, ◌-◌, ◌≤◌, get_or, refl, zero-add, arith, rules}
+use Rattle.std.proofs.Common.{refl, zero-add, arith, rules}
 use Rattle.octets.specs.Parts.{listed, field}
-use Rattle.octets.proofs.Filling.{Filled, next, full}
-use Rattle.blake2b.specs.Compression.{bytes_of}
+use Rattle.octets.proofs.Filling.{next, full}
 use Rattle.blake2b.proofs.bytes32.Goals as goal
 
 pub loop-i-init : goal.loop-i-init

@@ -1,8 +1,7 @@
 -- After i turns the array has the first i bytes of the state and zeros behind them; the loop ends at the digest's length n, so the zeros from n on are part of the result.
-use Rattle.std.proofs.Common.{◌≡◌, ◌+◌, ◌-◌, ◌≤◌, get_or, refl, zero-add, arith, rules}
+use Rattle.std.proofs.Common.{◌≡◌, refl, zero-add, arith, rules}
 use Rattle.octets.specs.Parts.{listed, field}
-use Rattle.octets.proofs.Filling.{Filled, next}
-use Rattle.blake2b.specs.Compression.{bytes_of}
+use Rattle.octets.proofs.Filling.{next}
 use Rattle.blake2b.proofs.bytes64.Goals as goal
 
 pub loop-i-init : goal.loop-i-init

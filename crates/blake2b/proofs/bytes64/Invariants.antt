@@ -1,7 +1,6 @@
 -- After i turns the array has the first i bytes of the state and zeros behind them; the loop ends at the digest's length n, so the zeros from n on are part of the result.
-use Rattle.std.proofs.Common.{◌≡◌, ◌+◌, ◌-◌, ◌≤◌, get_or, refl, zero-add, arith, rules}
-use Rattle.octets.specs.Parts.{listed, field}
-use Rattle.octets.proofs.Filling.{Filled, next}
+use Rattle.std.proofs.Common.{◌+◌, ◌-◌, ◌≤◌, get_or}
+use Rattle.octets.proofs.Filling.{Filled}
 use Rattle.blake2b.specs.Compression.{bytes_of}
 use Rattle.blake2b.proofs.bytes64.Given as goal
 

@@ -1,5 +1,4 @@
 use Rattle.blake2b.specs.Compression.{columns}
-use Rattle.std.proofs.Common.{rules}
 use Rattle.blake2b.proofs.columns.Goals as goal
 
 pub returns : goal.returns

@@ -1,5 +1,4 @@
 use Rattle.blake2b.specs.Compression.{F}
-use Rattle.std.proofs.Common.{rules}
 use Rattle.blake2b.proofs.compress.Goals as goal
 
 pub returns : goal.returns

@@ -1,5 +1,4 @@
 use Rattle.blake2b.specs.Compression.{G}
-use Rattle.std.proofs.Common.{rules}
 use Rattle.blake2b.proofs.g.Goals as goal
 
 pub returns : goal.returns

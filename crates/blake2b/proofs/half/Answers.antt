@@ -1,5 +1,4 @@
 use Rattle.blake2b.specs.Compression.{half}
-use Rattle.std.proofs.Common.{rules}
 use Rattle.blake2b.proofs.half.Goals as goal
 
 pub returns : goal.returns

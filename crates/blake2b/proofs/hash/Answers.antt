@@ -1,4 +1,4 @@
-use Rattle.std.proofs.Common.{◌∙◌, arith, rules}
+use Rattle.std.proofs.Common.{◌∙◌, arith}
 use Rattle.blake2b.proofs.Lengths.{none, long, allowed}
 use Rattle.blake2b.proofs.hash.Goals as goal
 

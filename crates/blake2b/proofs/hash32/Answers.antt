@@ -1,5 +1,4 @@
 use Rattle.blake2b.specs.Hashing.{blake2b_of}
-use Rattle.std.proofs.Common.{rules}
 use Rattle.blake2b.proofs.hash32.Goals as goal
 
 pub returns : goal.returns

@@ -1,7 +1,6 @@
 use Rattle.octets.specs.Parts.{listed}
 use Rattle.blake2b.specs.Compression.{iv, xored}
 use Rattle.blake2b.proofs.Starting.{state_start}
-use Rattle.std.proofs.Common.{rules}
 use Rattle.blake2b.proofs.initial.Goals as goal
 
 pub returns : goal.returns

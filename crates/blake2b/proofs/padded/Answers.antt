@@ -1,7 +1,7 @@
 -- After i turns the block has the first i bytes of the message from `at` on, and zeros behind them; when the message has ended, those zeros are the padding.
-use Rattle.std.proofs.Common.{◌+◌, ◌-◌, ◌≤◌, get_or, refl, arith, rules}
+use Rattle.std.proofs.Common.{refl, arith, rules}
 use Rattle.octets.specs.Parts.{listed}
-use Rattle.octets.proofs.Filling.{Filled, next}
+use Rattle.octets.proofs.Filling.{next}
 use Rattle.blake2b.proofs.Padding.{padding}
 use Rattle.blake2b.proofs.padded.Goals as goal
 

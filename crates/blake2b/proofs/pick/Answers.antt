@@ -1,4 +1,4 @@
-use Rattle.std.proofs.Common.{◌<◌, [], get_or, arith, rules}
+use Rattle.std.proofs.Common.{arith}
 use Rattle.blake2b.specs.Compression.{picked}
 use Rattle.blake2b.proofs.Order.{below}
 use Rattle.blake2b.proofs.pick.Goals as goal

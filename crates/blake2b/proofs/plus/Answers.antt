@@ -1,5 +1,4 @@
 use Rattle.blake2b.specs.Compression.{plus}
-use Rattle.std.proofs.Common.{rules}
 use Rattle.blake2b.proofs.plus.Goals as goal
 
 pub returns : goal.returns

@@ -1,4 +1,4 @@
-use Rattle.std.proofs.Common.{refl, rules}
+use Rattle.std.proofs.Common.{refl}
 use Rattle.blake2b.specs.Compression.{rotr}
 use Rattle.blake2b.proofs.rotr.Goals as goal
 

@@ -1,7 +1,6 @@
 -- After i turns the working vector is the definition's after i rounds; the schedule's table is unfolded so that each of its rows is seen to be within it.
-use Rattle.std.proofs.Common.{◌≡◌, ◌-◌, ◌≤◌, refl, arith, rules}
-use Rattle.blake2b.specs.Compression.{rows, sigma, rounds}
-use Rattle.blake2b.proofs.Runs.{next_round}
+use Rattle.std.proofs.Common.{◌≡◌, ◌-◌, ◌≤◌}
+use Rattle.blake2b.specs.Compression.{rounds}
 use Rattle.blake2b.proofs.rounds.Given as goal
 
 abbrev pub invariant-loop-i : goal.invariant-loop-i

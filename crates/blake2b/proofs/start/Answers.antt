@@ -1,4 +1,4 @@
-use Rattle.std.proofs.Common.{arith, rules}
+use Rattle.std.proofs.Common.{arith}
 use Rattle.octets.specs.Parts.{listed, field}
 use Rattle.blake2b.specs.Compression.{iv, xored}
 use Rattle.blake2b.proofs.Starting.{vector_start}

@@ -1,4 +1,4 @@
-use Rattle.std.proofs.Common.{add-zero, rules}
+use Rattle.std.proofs.Common.{add-zero}
 use Rattle.octets.specs.Parts.{listed, field}
 use Rattle.blake2b.specs.Compression.{word_at}
 use Rattle.blake2b.proofs.word.Goals as goal

@@ -1,8 +1,7 @@
 -- After i turns the array has the first i words of the block and zeros behind them; after 16 turns it is full.
-use Rattle.std.proofs.Common.{◌-◌, ◌≤◌, refl, arith, rules}
+use Rattle.std.proofs.Common.{refl, arith, rules}
 use Rattle.octets.specs.Parts.{listed}
-use Rattle.octets.proofs.Filling.{Filled, next, full}
-use Rattle.blake2b.specs.Compression.{word_at}
+use Rattle.octets.proofs.Filling.{next, full}
 use Rattle.blake2b.proofs.words.Goals as goal
 
 pub loop-i-init : goal.loop-i-init

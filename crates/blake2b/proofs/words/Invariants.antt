@@ -1,7 +1,6 @@
 -- After i turns the array has the first i words of the block and zeros behind them; after 16 turns it is full.
-use Rattle.std.proofs.Common.{◌-◌, ◌≤◌, refl, arith, rules}
-use Rattle.octets.specs.Parts.{listed}
-use Rattle.octets.proofs.Filling.{Filled, next, full}
+use Rattle.std.proofs.Common.{◌-◌, ◌≤◌}
+use Rattle.octets.proofs.Filling.{Filled}
 use Rattle.blake2b.specs.Compression.{word_at}
 use Rattle.blake2b.proofs.words.Given as goal
 

@@ -1,6 +1,5 @@
 use Rattle.casefile.specs.Layout.{description, old_note_lengths, new_note_lengths, lengths, total, offset, proof_length, part_of}
 use Rattle.casefile.specs.Fields.{anchor_of}
-use borrow.Author.Rules.{rules}
 use Rattle.casefile.proofs.anchor.Goals as goal
 
 pub returns : goal.returns

@@ -1,6 +1,5 @@
 use native.Mathlib.Omega.{arith}
 use Rattle.casefile.proofs.Editions.{proof_bytes}
-use borrow.Author.Rules.{rules}
 use Rattle.casefile.proofs.behind_proof.Goals as goal
 
 pub returns-then-n-lt-LENGTH_WITHOUT_PROOF : goal.returns-then-n-lt-LENGTH_WITHOUT_PROOF

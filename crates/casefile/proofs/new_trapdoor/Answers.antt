@@ -2,7 +2,6 @@ use mathlib.Core.Path.{refl, ◌∙◌}
 use Rattle.casefile.specs.Layout.{description, old_note_lengths, new_note_lengths, lengths, total, offset, of_new}
 use Rattle.casefile.specs.Fields.{new_trapdoor_of}
 use Rattle.casefile.proofs.Places.{behind_pair, read_behind}
-use borrow.Author.Rules.{rules}
 use Rattle.casefile.proofs.new_trapdoor.Goals as goal
 
 pub returns : goal.returns

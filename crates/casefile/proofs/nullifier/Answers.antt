@@ -2,7 +2,6 @@ use mathlib.Core.Path.{refl, ◌∙◌}
 use Rattle.casefile.specs.Layout.{description, old_note_lengths, new_note_lengths, lengths, total, offset, proof_length, part_of}
 use Rattle.casefile.specs.Fields.{nullifier_of}
 use Rattle.casefile.proofs.Places.{paired}
-use borrow.Author.Rules.{rules}
 use Rattle.casefile.proofs.nullifier.Goals as goal
 
 pub returns : goal.returns

@@ -1,7 +1,6 @@
 use mathlib.Core.Path.{◌∙◌}
 use native.Mathlib.Omega.{arith}
 use Rattle.casefile.proofs.Places.{none_present, some_present, all_present, path_part}
-use borrow.Author.Rules.{rules}
 use Rattle.casefile.proofs.old_path.Goals as goal
 
 pub returns-then-n-start : goal.returns-then-n-start

@@ -3,7 +3,6 @@ use Rattle.octets.specs.Numbers.{little}
 use Rattle.casefile.specs.Layout.{description, old_note_lengths, new_note_lengths, lengths, total, offset, of_old}
 use Rattle.casefile.specs.Fields.{old_position_of}
 use Rattle.casefile.proofs.Places.{behind_pair, read_behind}
-use borrow.Author.Rules.{rules}
 use Rattle.casefile.proofs.old_position.Goals as goal
 
 pub returns : goal.returns

@@ -1,7 +1,6 @@
 use mathlib.Core.Path.{refl}
 use Rattle.casefile.specs.Layout.{description, old_note_lengths, new_note_lengths, lengths, total, offset, of_new}
 use Rattle.casefile.proofs.Places.{behind_pair, put_behind}
-use borrow.Author.Rules.{rules}
 use Rattle.casefile.proofs.put_new_rho.Goals as goal
 
 pub returns : goal.returns

@@ -1,7 +1,6 @@
 use mathlib.Core.Path.{refl}
 use Rattle.casefile.specs.Layout.{description, old_note_lengths, new_note_lengths, lengths, total, offset, proof_length, nullifier}
 use Rattle.casefile.proofs.Places.{put_pair}
-use borrow.Author.Rules.{rules}
 use Rattle.casefile.proofs.put_nullifier.Goals as goal
 
 pub returns : goal.returns

@@ -1,5 +1,4 @@
 use native.Mathlib.Omega.{arith}
-use borrow.Author.Rules.{rules}
 use Rattle.casefile.proofs.spot.Goals as goal
 
 pub returns-in-Second : goal.returns-in-Second

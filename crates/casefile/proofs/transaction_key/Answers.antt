@@ -2,7 +2,6 @@ use mathlib.Core.Path.{refl, ◌∙◌}
 use Rattle.casefile.specs.Layout.{description, old_note_lengths, new_note_lengths, lengths, total, offset, transaction_key}
 use Rattle.casefile.specs.Fields.{transaction_key_of}
 use Rattle.casefile.proofs.Places.{read_behind}
-use borrow.Author.Rules.{rules}
 use Rattle.casefile.proofs.transaction_key.Goals as goal
 
 pub returns : goal.returns

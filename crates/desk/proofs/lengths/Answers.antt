@@ -6,7 +6,6 @@ use borrow.Author.Tests.{not-true, not-false, eq-eqb, ne_eqb}
 use Rattle.casefile.specs.Fields.{has_length}
 use Rattle.refusals.proofs.RuleLaws.{one_holds, one_fails}
 use Rattle.desk.specs.Drafts.{lengths1, one_length}
-use borrow.Author.Rules.{rules}
 use Rattle.desk.proofs.lengths.Goals as goal
 
 pub returns-then-not-has_length : goal.returns-then-not-has_length

@@ -6,7 +6,6 @@ use Rattle.refusals.specs.Rules.{first, rules_in, numbered}
 use Rattle.refusals.proofs.RuleLaws.{stops, goes_on, last_group}
 use Rattle.statement.specs.CaseRefusals.{no7, no9, no10, no11}
 use Rattle.desk.specs.Drafts.{notes_refusals}
-use borrow.Author.Rules.{rules}
 use Rattle.desk.proofs.notes.Goals as goal
 
 pub returns-then-not-is_accepted : goal.returns-then-not-is_accepted

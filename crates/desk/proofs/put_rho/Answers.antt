@@ -1,5 +1,4 @@
 use Rattle.desk.specs.Drafts.{with_rho}
-use borrow.Author.Rules.{rules}
 use Rattle.desk.proofs.put_rho.Goals as goal
 
 pub returns : goal.returns

@@ -1,5 +1,4 @@
 use Rattle.desk.specs.Drafts.{with_new}
-use borrow.Author.Rules.{rules}
 use Rattle.desk.proofs.work_out_new.Goals as goal
 
 pub returns : goal.returns

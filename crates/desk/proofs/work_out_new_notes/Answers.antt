@@ -1,5 +1,4 @@
 use Rattle.desk.specs.Drafts.{with_new_notes}
-use borrow.Author.Rules.{rules}
 use Rattle.desk.proofs.work_out_new_notes.Goals as goal
 
 pub returns : goal.returns

@@ -1,5 +1,4 @@
 use Rattle.desk.specs.Drafts.{with_old}
-use borrow.Author.Rules.{rules}
 use Rattle.desk.proofs.work_out_old.Goals as goal
 
 pub returns : goal.returns

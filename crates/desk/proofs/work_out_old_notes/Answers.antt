@@ -1,5 +1,4 @@
 use Rattle.desk.specs.Drafts.{with_old_notes}
-use borrow.Author.Rules.{rules}
 use Rattle.desk.proofs.work_out_old_notes.Goals as goal
 
 pub returns : goal.returns

@@ -11,7 +11,6 @@ use Rattle.refusals.proofs.RuleLaws.{stops, goes_on, run_stops, run_goes_on}
 use Rattle.statement.specs.CaseRefusals.{no4, no5}
 use Rattle.desk.specs.Drafts.{with_old_notes, lengths1, notes_refusals, desk_refusals, desk_answer, buffer_after}
 use Rattle.desk.proofs.WrittenLaws.{passed_lengths, is_kept}
-use borrow.Author.Rules.{rules}
 use Rattle.desk.proofs.write.Goals as goal
 
 pub returns-then-not-is_accepted : goal.returns-then-not-is_accepted

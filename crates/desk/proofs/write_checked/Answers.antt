@@ -9,7 +9,6 @@ use Rattle.refusals.specs.Rules.{first, rules_in}
 use Rattle.statement.specs.CaseRefusals.{h_sig_of}
 use Rattle.desk.specs.Drafts.{with_old_notes, with_new_notes, written, notes_refusals}
 use Rattle.desk.proofs.WrittenLaws.{copied, written_length, is_kept, is_written}
-use borrow.Author.Rules.{rules}
 use Rattle.desk.proofs.write_checked.Goals as goal
 
 pub returns-then-not-is_accepted : goal.returns-then-not-is_accepted

@@ -3,7 +3,6 @@ use mathlib.Core.Path.{sym, ◌∙◌, ap}
 use borrow.Author.Tests.{not-true, not-false}
 use Rattle.ledgerbytes.specs.LedgerBytes.{bare}
 use Rattle.judge.proofs.Outcomes.{length_decides, front_decides, witness_decides, pool_decides}
-use borrow.Author.Rules.{rules}
 use Rattle.judge.proofs.answered.Goals as goal
 
 pub returns-then-not-has_length : goal.returns-then-not-has_length

@@ -5,7 +5,6 @@ use Rattle.refusals.specs.Rules.{first, is_accepted}
 use Rattle.ledger.specs.Ledgers.{close_refusals}
 use Rattle.ledger.proofs.Endings.{close_refused, close_passed}
 use Rattle.judge.proofs.Bare.{closing_bare, close_free}
-use borrow.Author.Rules.{rules}
 use Rattle.judge.proofs.close.Goals as goal
 
 pub returns-then-not-is_accepted : goal.returns-then-not-is_accepted

@@ -12,7 +12,6 @@ use Rattle.ledger.proofs.Endings.{close_refused, close_passed}
 use Rattle.ledgerbytes.specs.LedgerBytes.{ledger_of, buffer_after_write}
 use Rattle.judge.proofs.Bare.{closing_bare, close_free}
 use Rattle.judge.proofs.Outcomes.{refused_kept, accepted_kept}
-use borrow.Author.Rules.{rules}
 use Rattle.judge.proofs.close_kept.Goals as goal
 
 pub returns-then-not-is_accepted : goal.returns-then-not-is_accepted

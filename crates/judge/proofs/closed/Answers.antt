@@ -6,7 +6,6 @@ use lib.ListN.{length}
 use Rattle.octets.specs.Parts.{pasted}
 use Rattle.ledger.specs.Ledgers.{most_anchors}
 use Rattle.ledger.proofs.Soundness.{at_most}
-use borrow.Author.Rules.{rules}
 use Rattle.judge.proofs.closed.Goals as goal
 
 pub start_of-requires : goal.start_of-requires

@@ -10,7 +10,6 @@ use Rattle.refusals.specs.Rules.{Rule, rule, first, numbered}
 use Rattle.refusals.proofs.RuleLaws.{stops, goes_on, last_group, one_holds, one_fails}
 use Rattle.ledger.specs.Ledgers.{most_anchors, room_in, no2, close_refusals}
 use Rattle.ledgerbytes.specs.LedgerBytes.{bare}
-use borrow.Author.Rules.{rules}
 use Rattle.judge.proofs.closing.Goals as goal
 
 -- the roll's own refusal, and what is left to decide once the ledger is sound

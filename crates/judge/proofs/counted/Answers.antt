@@ -1,6 +1,5 @@
 use mathlib.Core.Path.{sym, ◌∙◌}
 use Rattle.judge.specs.Settling.{own_counted}
-use borrow.Author.Rules.{rules}
 use Rattle.judge.proofs.counted.Goals as goal
 
 pub returns-then-is_accepted : goal.returns-then-is_accepted

@@ -4,7 +4,6 @@ use Rattle.ledger.specs.declared.Ledger.{Ledger}
 use Rattle.ledger.specs.Rows.{table_with_two}
 use Rattle.ledger.specs.Ledgers.{entered_of}
 use Rattle.ledgerbytes.specs.LedgerBytes.{buffer_after_write}
-use borrow.Author.Rules.{rules}
 use Rattle.judge.proofs.enter_kept.Goals as goal
 
 pub entered-after-requires : goal.entered-after-requires

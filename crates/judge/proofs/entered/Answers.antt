@@ -1,5 +1,4 @@
 use Rattle.judge.proofs.Readiness.{as_read}
-use borrow.Author.Rules.{rules}
 use Rattle.judge.proofs.entered.Goals as goal
 
 pub enter-requires : goal.enter-requires

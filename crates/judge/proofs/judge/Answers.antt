@@ -6,7 +6,6 @@ use Rattle.judge.specs.Judging.{answer_of}
 use Rattle.judge.proofs.Bare.{answered_bare}
 use Rattle.judge.proofs.Outcomes.{refused_ledger, refused_table, accepted_ledger, accepted_table, judged}
 use Rattle.judge.proofs.Readiness.{ready}
-use borrow.Author.Rules.{rules}
 use Rattle.judge.proofs.judge.Goals as goal
 
 pub returns-then-not-is_accepted : goal.returns-then-not-is_accepted

@@ -8,7 +8,6 @@ use Rattle.judge.specs.Judging.{answer_of, ledger_after_case, table_after_case}
 use Rattle.judge.proofs.Bare.{answered_bare}
 use Rattle.judge.proofs.Outcomes.{both_left, both_entered}
 use Rattle.judge.proofs.Readiness.{ready}
-use borrow.Author.Rules.{rules}
 use Rattle.judge.proofs.judge_kept.Goals as goal
 
 pub returns-then-not-is_accepted : goal.returns-then-not-is_accepted

@@ -11,7 +11,6 @@ use Rattle.nodes.specs.CommitmentTree.{parent_of, empty_leaf, empty_root, tree_r
 use Rattle.nodes.proofs.TreeLaws.{root_empty}
 use Rattle.ledger.specs.Ledgers.{most_anchors, room_in, open_refusals}
 use Rattle.ledger.proofs.Endings.{open_refused, open_passed}
-use borrow.Author.Rules.{rules}
 use Rattle.judge.proofs.open.Goals as goal
 
 pub returns-then-room_in-eq0 : goal.returns-then-room_in-eq0

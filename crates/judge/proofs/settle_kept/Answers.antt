@@ -8,7 +8,6 @@ use Rattle.judge.specs.Settling.{settled_answer, ledger_after_settling, table_af
 use Rattle.judge.proofs.Bare.{own_bare}
 use Rattle.judge.proofs.Outcomes.{both_left, both_entered}
 use Rattle.judge.proofs.Readiness.{ready_settled}
-use borrow.Author.Rules.{rules}
 use Rattle.judge.proofs.settle_kept.Goals as goal
 
 pub returns-then-not-is_accepted : goal.returns-then-not-is_accepted

@@ -2,7 +2,6 @@ use Rattle.tree.specs.declared.Tree.{Tree}
 use mathlib.Core.Path.{ap₂}
 use Prim.Native.Nat.{ℕ}
 use Rattle.ledger.specs.Ledgers.{empty_ledger}
-use borrow.Author.Rules.{rules}
 use Rattle.judge.proofs.start.Goals as goal
 
 pub returns : goal.returns

@@ -4,7 +4,6 @@ use lib.ListN.{length}
 use Rattle.octets.proofs.NumberLaws.{little_bytes_length}
 use Rattle.octets.proofs.Joining.{start, next, done}
 use Rattle.ledgerbytes.specs.LedgerBytes.{head_of}
-use borrow.Author.Rules.{rules}
 use Rattle.ledgerbytes.proofs.head.Goals as goal
 
 pub returns : goal.returns

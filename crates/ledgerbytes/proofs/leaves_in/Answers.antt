@@ -1,5 +1,4 @@
 use Rattle.octets.specs.Parts.{listed, field}
-use borrow.Author.Rules.{rules}
 use Rattle.ledgerbytes.proofs.leaves_in.Goals as goal
 
 pub returns : goal.returns

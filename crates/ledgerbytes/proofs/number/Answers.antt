@@ -1,6 +1,5 @@
 use native.Mathlib.Nat.{add-zero}
 use Rattle.octets.specs.Parts.{listed, field}
-use borrow.Author.Rules.{rules}
 use Rattle.ledgerbytes.proofs.number.Goals as goal
 
 pub returns : goal.returns

@@ -1,5 +1,4 @@
 use Rattle.ledgerbytes.specs.LedgerBytes.{ledger_of}
-use borrow.Author.Rules.{rules}
 use Rattle.ledgerbytes.proofs.read.Goals as goal
 
 pub returns : goal.returns

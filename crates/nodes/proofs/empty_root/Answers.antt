@@ -2,7 +2,6 @@ use Prim.Native.Nat.{min}
 use mathlib.Core.Path.{◌≡◌, ◌∙◌}
 use native.Mathlib.Omega.{arith}
 use Rattle.nodes.proofs.Empties.{table, table_at}
-use borrow.Author.Rules.{rules}
 use Rattle.nodes.proofs.empty_root.Goals as goal
 
 pub returns-then-level-ge29 : goal.returns-then-level-ge29

@@ -1,5 +1,4 @@
 use Rattle.nodes.specs.CommitmentTree.{parent_of}
-use borrow.Author.Rules.{rules}
 use Rattle.nodes.proofs.parent.Goals as goal
 
 pub returns : goal.returns

@@ -15,18 +15,18 @@ unfolding fits_in
 returns-then-dst-n c =
     let a = c.args in
     let h : length a.dst.now < a.at + length a.src.now = omega arith in record {
-    value = sym (lt-leb _ _ h);
-    dst_after = sym (pasted_not a.at a.src.now a.dst.now h);
-  }
+      value = sym (lt-leb _ _ h);
+      dst_after = sym (pasted_not a.at a.src.now a.dst.now h);
+    }
 
 pub returns-then-dst-n-2 : goal.returns-then-dst-n-2
 unfolding fits_in
 returns-then-dst-n-2 c =
     let a = c.args in
     let h : length a.dst.now < a.at + length a.src.now = omega arith in record {
-    value = sym (lt-leb _ _ h);
-    dst_after = sym (pasted_not a.at a.src.now a.dst.now h);
-  }
+      value = sym (lt-leb _ _ h);
+      dst_after = sym (pasted_not a.at a.src.now a.dst.now h);
+    }
 
 pub loop-i-init : goal.loop-i-init
 loop-i-init c =
@@ -42,6 +42,6 @@ pub returns : goal.returns
 unfolding fits_in
 returns c =
     let a = c.args in record {
-    value = sym (le-leb _ _ c.loop-i.invariant.1.0);
-    dst_after = c.loop-i.invariant.1.1.1 ∙ pasting_done a.dst.now a.at a.src.now c.loop-i.i (omega arith) c.loop-i.invariant.1.0;
-  }
+      value = sym (le-leb _ _ c.loop-i.invariant.1.0);
+      dst_after = c.loop-i.invariant.1.1.1 ∙ pasting_done a.dst.now a.at a.src.now c.loop-i.i (omega arith) c.loop-i.invariant.1.0;
+    }

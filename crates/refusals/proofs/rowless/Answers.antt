@@ -1,6 +1,5 @@
 use mathlib.Core.Path.{ap}
 use Rattle.refusals.specs.Rules.{answer_in_row}
-use borrow.Author.Rules.{rules}
 use Rattle.refusals.proofs.rowless.Goals as goal
 
 pub returns : goal.returns

@@ -1,5 +1,4 @@
 use Rattle.sha256.specs.Compression.{compress_from}
-use borrow.Author.Rules.{rules}
 use Rattle.sha256.proofs.absorb.Goals as goal
 
 pub returns : goal.returns

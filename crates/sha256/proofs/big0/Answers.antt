@@ -1,5 +1,4 @@
 use Rattle.sha256.specs.Compression.{Σ0}
-use borrow.Author.Rules.{rules}
 use Rattle.sha256.proofs.big0.Goals as goal
 
 pub returns : goal.returns

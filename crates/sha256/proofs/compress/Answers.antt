@@ -1,5 +1,4 @@
 use Rattle.sha256.specs.Compression.{compress_of}
-use borrow.Author.Rules.{rules}
 use Rattle.sha256.proofs.compress.Goals as goal
 
 pub returns : goal.returns

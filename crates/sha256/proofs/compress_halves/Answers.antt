@@ -1,4 +1,3 @@
-use borrow.Author.Rules.{rules}
 use Rattle.sha256.proofs.compress_halves.Goals as goal
 
 pub returns : goal.returns

@@ -1,6 +1,5 @@
 use native.Mathlib.Nat.{add-zero}
 use Rattle.sha256.specs.Steps.{rounds_from}
-use borrow.Author.Rules.{rules}
 use Rattle.sha256.proofs.eight.Goals as goal
 
 pub returns : goal.returns

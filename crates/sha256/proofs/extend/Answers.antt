@@ -1,5 +1,4 @@
 use Rattle.sha256.specs.Compression.{next_word}
-use borrow.Author.Rules.{rules}
 use Rattle.sha256.proofs.extend.Goals as goal
 
 pub returns : goal.returns

@@ -5,7 +5,6 @@ use lib.ListN.{length}
 use Rattle.octets.specs.Numbers.{big_bytes}
 use Rattle.octets.proofs.NumberLaws.{big_bytes_length}
 use Rattle.sha256.proofs.Ends.{ending, ending_length}
-use borrow.Author.Rules.{rules}
 use Rattle.sha256.proofs.fill_last.Goals as goal
 
 pub shape_of-t : goal.shape_of-t

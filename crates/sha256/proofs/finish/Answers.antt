@@ -1,7 +1,6 @@
 use mathlib.Core.Path.{◌∙◌}
 use native.Mathlib.Omega.{arith}
 use Rattle.sha256.proofs.Runs.{one, two, closing}
-use borrow.Author.Rules.{rules}
 use Rattle.sha256.proofs.finish.Goals as goal
 
 pub returns-then-rest-lt56 : goal.returns-then-rest-lt56

@@ -1,9 +1,8 @@
 -- After i turns the state is that of the message's first i whole blocks; what is left after the loop, with its padding, is one or two blocks, which `finish` adds.
 use mathlib.Core.Path.{◌≡◌, refl, ◌∙◌}
-use Prim.Native.Nat.{◌-◌, ◌/◌, ◌≤◌}
+use Prim.Native.Nat.{◌/◌}
 use native.Mathlib.Omega.{arith}
 use lib.ListN.{length}
-use Rattle.sha256.specs.Compression.{start_of}
 use Rattle.sha256.specs.Hash.{blocks}
 use Rattle.sha256.proofs.Runs.{onward, whole}
 use borrow.Author.Rules.{rules}

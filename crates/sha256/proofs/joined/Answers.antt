@@ -1,6 +1,5 @@
 use native.Mathlib.Omega.{arith}
 use Rattle.sha256.proofs.Ends.{halves}
-use borrow.Author.Rules.{rules}
 use Rattle.sha256.proofs.joined.Goals as goal
 
 pub returns : goal.returns

@@ -2,7 +2,6 @@ use mathlib.Core.Path.{◌≡◌}
 use Prim.Native.Nat.{◌*◌, ◌%◌, ◌^◌}
 use native.Mathlib.Omega.{arith}
 use Rattle.octets.proofs.NumberLaws.{big_bytes_mod}
-use borrow.Author.Rules.{rules}
 use Rattle.sha256.proofs.length_field.Goals as goal
 
 pub returns : goal.returns

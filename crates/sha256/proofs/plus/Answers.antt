@@ -1,5 +1,4 @@
 use Rattle.sha256.specs.Compression.{plus_of}
-use borrow.Author.Rules.{rules}
 use Rattle.sha256.proofs.plus.Goals as goal
 
 pub returns : goal.returns

@@ -1,5 +1,4 @@
 use Rattle.sha256.specs.Compression.{round_of, turned, T1, T2}
-use borrow.Author.Rules.{rules}
 use Rattle.sha256.proofs.round.Goals as goal
 
 pub returns : goal.returns

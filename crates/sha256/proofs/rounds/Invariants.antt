@@ -1,10 +1,7 @@
 -- After i turns the state is the definition's after 8 i rounds, since each turn makes eight; after 8 turns these are all 64.
-use mathlib.Core.Path.{◌≡◌, refl}
+use mathlib.Core.Path.{◌≡◌}
 use Prim.Native.Nat.{◌-◌, ◌*◌, ◌≤◌}
-use native.Mathlib.Omega.{arith}
 use Rattle.sha256.specs.Compression.{k_list, rounds}
-use Rattle.sha256.proofs.Turns.{eight_more}
-use borrow.Author.Rules.{rules}
 use Rattle.sha256.proofs.rounds.Given as goal
 
 abbrev pub invariant-loop-i : goal.invariant-loop-i

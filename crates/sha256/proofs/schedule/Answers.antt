@@ -1,8 +1,8 @@
 -- After j turns the array has the block's 16 words, 4 j more and zeros behind them; a turn's four steps are one law (`grown`), used four times, and after 12 turns all 48 are there.
-use Prim.Native.Nat.{◌+◌, ◌-◌, ◌*◌, ◌≤◌, ◌<◌}
+use Prim.Native.Nat.{◌+◌, ◌*◌, ◌<◌}
 use native.Mathlib.Omega.{arith}
 use Rattle.sha256.specs.Compression.{schedule}
-use Rattle.sha256.proofs.Growth.{Grown, grown, all}
+use Rattle.sha256.proofs.Growth.{grown, all}
 use borrow.Author.Rules.{rules}
 use Rattle.sha256.proofs.schedule.Goals as goal
 

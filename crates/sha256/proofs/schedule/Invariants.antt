@@ -1,9 +1,6 @@
 -- After j turns the array has the block's 16 words, 4 j more and zeros behind them; a turn's four steps are one law (`grown`), used four times, and after 12 turns all 48 are there.
-use Prim.Native.Nat.{◌+◌, ◌-◌, ◌*◌, ◌≤◌, ◌<◌}
-use native.Mathlib.Omega.{arith}
-use Rattle.sha256.specs.Compression.{schedule}
-use Rattle.sha256.proofs.Growth.{Grown, grown, all}
-use borrow.Author.Rules.{rules}
+use Prim.Native.Nat.{◌-◌, ◌*◌, ◌≤◌}
+use Rattle.sha256.proofs.Growth.{Grown}
 use Rattle.sha256.proofs.schedule.Given as goal
 
 abbrev pub invariant-loop-j : goal.invariant-loop-j

@@ -1,5 +1,4 @@
 use Rattle.sha256.specs.Compression.{σ1, shr}
-use borrow.Author.Rules.{rules}
 use Rattle.sha256.proofs.small1.Goals as goal
 
 pub returns : goal.returns

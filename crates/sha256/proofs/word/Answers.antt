@@ -1,7 +1,6 @@
 use native.Mathlib.Nat.{add-zero}
 use Rattle.octets.specs.Parts.{listed, field}
 use Rattle.sha256.specs.Compression.{word_at}
-use borrow.Author.Rules.{rules}
 use Rattle.sha256.proofs.word.Goals as goal
 
 pub returns : goal.returns

@@ -1,11 +1,7 @@
 -- After i turns the array of 64 has the first i words of the block and zeros behind them; it stops at 16, where the schedule goes on.
-use mathlib.Core.Path.{◌≡◌, refl}
 use Prim.Native.Nat.{◌-◌, ◌≤◌}
-use native.Mathlib.Omega.{arith}
-use Rattle.octets.specs.Parts.{listed}
-use Rattle.octets.proofs.Filling.{Filled, next}
+use Rattle.octets.proofs.Filling.{Filled}
 use Rattle.sha256.specs.Compression.{word_at}
-use borrow.Author.Rules.{rules}
 use Rattle.sha256.proofs.words.Given as goal
 
 abbrev pub invariant-loop-i : goal.invariant-loop-i

@@ -8,7 +8,6 @@ use Rattle.refusals.proofs.RuleLaws.{stops, goes_on, run_stops, run_goes_on}
 use Rattle.statement.specs.CaseRefusals.{no4, no5, no7, no9, claim_refusals}
 use Rattle.slices.specs.Records.{case_in}
 use Rattle.slices.specs.Steps.{held10, alone_refusals}
-use borrow.Author.Rules.{rules}
 use Rattle.slices.proofs.alone.Goals as goal
 
 abbrev public : List ℕ → List (List Rule)

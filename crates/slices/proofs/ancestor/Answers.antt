@@ -1,9 +1,8 @@
 -- After each turn the number is the position, halved as often as turns were made.
-use mathlib.Core.Path.{◌≡◌, ap, ◌∙◌}
-use Prim.Native.Nat.{ℕ, ◌-◌, ◌/◌, ◌^◌, ◌≤◌}
+use mathlib.Core.Path.{ap, ◌∙◌}
+use Prim.Native.Nat.{ℕ, ◌/◌, ◌^◌}
 use native.Mathlib.Omega.{arith}
 use lib.Pow.{shr-shr}
-use borrow.Author.Rules.{rules}
 use Rattle.slices.proofs.ancestor.Goals as goal
 
 pub loop-init : goal.loop-init

@@ -1,9 +1,6 @@
 -- After each turn the number is the position, halved as often as turns were made.
-use mathlib.Core.Path.{◌≡◌, ap, ◌∙◌}
-use Prim.Native.Nat.{ℕ, ◌-◌, ◌/◌, ◌^◌, ◌≤◌}
-use native.Mathlib.Omega.{arith}
-use lib.Pow.{shr-shr}
-use borrow.Author.Rules.{rules}
+use mathlib.Core.Path.{◌≡◌}
+use Prim.Native.Nat.{◌-◌, ◌/◌, ◌^◌, ◌≤◌}
 use Rattle.slices.proofs.ancestor.Given as goal
 
 abbrev pub invariant-loop : goal.invariant-loop

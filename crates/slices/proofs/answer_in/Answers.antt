@@ -2,7 +2,6 @@ use mathlib.Core.Path.{sym, ◌∙◌}
 use borrow.Author.Tests.{le-leb, lt-leb}
 use native.Mathlib.Omega.{arith}
 use Rattle.slices.specs.Records.{answer_in}
-use borrow.Author.Rules.{rules}
 use Rattle.slices.proofs.answer_in.Goals as goal
 
 pub returns-then-number-gt17 : goal.returns-then-number-gt17

@@ -9,7 +9,6 @@ use Rattle.casefile.specs.Fields.{has_length}
 use Rattle.slices.specs.Records.{judgement_length, steps_in, without_case}
 use Rattle.slices.specs.Steps.{not_yet, climbed_in, begin_answer, record_after_begin}
 use Rattle.slices.proofs.RecordLaws.{taken_steps}
-use borrow.Author.Rules.{rules}
 use Rattle.slices.proofs.begin.Goals as goal
 
 pub returns-then-judgement-ne-JUDGEMENT_LENGTH : goal.returns-then-judgement-ne-JUDGEMENT_LENGTH

@@ -1,6 +1,5 @@
 use native.Mathlib.Omega.{arith}
 use Rattle.slices.proofs.RecordLaws.{no_record, first_edition, second_edition, no_edition}
-use borrow.Author.Rules.{rules}
 use Rattle.slices.proofs.case_in.Goals as goal
 
 pub returns-then-judgement-ne-JUDGEMENT_LENGTH : goal.returns-then-judgement-ne-JUDGEMENT_LENGTH

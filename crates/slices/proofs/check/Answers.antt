@@ -1,5 +1,4 @@
 use Rattle.slices.specs.Steps.{checked_in}
-use borrow.Author.Rules.{rules}
 use Rattle.slices.proofs.check.Goals as goal
 
 pub returns : goal.returns

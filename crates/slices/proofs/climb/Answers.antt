@@ -1,6 +1,5 @@
 use Rattle.slices.specs.Records.{with_node}
 use Rattle.slices.specs.Steps.{climbed_in}
-use borrow.Author.Rules.{rules}
 use Rattle.slices.proofs.climb.Goals as goal
 
 pub returns : goal.returns

@@ -1,7 +1,6 @@
 use mathlib.Core.Path.{sym, ◌∙◌}
 use Rattle.refusals.proofs.RuleLaws.{each_first, each_second, each_none}
 use Rattle.slices.specs.Steps.{strays_in, held10}
-use borrow.Author.Rules.{rules}
 use Rattle.slices.proofs.ends.Goals as goal
 
 pub returns-then-strays : goal.returns-then-strays

@@ -1,7 +1,6 @@
 use mathlib.Core.Path.{ap, ◌∙◌}
 use Rattle.casefile.specs.Fields.{has_length}
 use Rattle.slices.specs.Records.{holds_case}
-use borrow.Author.Rules.{rules}
 use Rattle.slices.proofs.holds_case.Goals as goal
 
 pub returns : goal.returns

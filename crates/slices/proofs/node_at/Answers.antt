@@ -1,4 +1,3 @@
-use borrow.Author.Rules.{rules}
 use Rattle.slices.proofs.node_at.Goals as goal
 
 pub returns-in-First : goal.returns-in-First

@@ -2,7 +2,6 @@ use mathlib.Core.Path.{ap, ◌∙◌}
 use Prim.Native.Nat.{ℕ}
 use Rattle.octets.specs.Parts.{field}
 use Rattle.slices.specs.Records.{node_in}
-use borrow.Author.Rules.{rules}
 use Rattle.slices.proofs.node_in.Goals as goal
 
 pub returns : goal.returns

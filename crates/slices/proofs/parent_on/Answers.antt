@@ -2,7 +2,6 @@ use mathlib.Core.Path.{ap, ◌∙◌}
 use Rattle.tree.specs.Record.{step_of}
 use Rattle.slices.specs.Steps.{parent_on}
 use Rattle.slices.proofs.Levels.{sibling}
-use borrow.Author.Rules.{rules}
 use Rattle.slices.proofs.parent_on.Goals as goal
 
 pub returns : goal.returns

@@ -1,6 +1,5 @@
 use Rattle.octets.specs.Numbers.{little_bytes}
 use Rattle.slices.specs.Records.{with_answer}
-use borrow.Author.Rules.{rules}
 use Rattle.slices.proofs.put_answer.Goals as goal
 
 pub returns : goal.returns

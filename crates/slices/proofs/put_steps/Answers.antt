@@ -1,5 +1,4 @@
 use Rattle.slices.specs.Records.{with_steps}
-use borrow.Author.Rules.{rules}
 use Rattle.slices.proofs.put_steps.Goals as goal
 
 pub returns : goal.returns

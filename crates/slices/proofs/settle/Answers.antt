@@ -1,6 +1,5 @@
 use mathlib.Core.Path.{◌∙◌}
 use Rattle.slices.specs.Steps.{settled_in}
-use borrow.Author.Rules.{rules}
 use Rattle.slices.proofs.settle.Goals as goal
 
 pub returns : goal.returns

@@ -3,7 +3,6 @@ use borrow.Author.Tests.{eq-eqb, ne_eqb}
 use Rattle.units.specs.Pairs.{number_of}
 use Rattle.statement.specs.CaseRefusals.{old_commitment_of}
 use Rattle.slices.specs.Steps.{start_in}
-use borrow.Author.Rules.{rules}
 use Rattle.slices.proofs.start_in.Goals as goal
 
 pub returns-then-level-eq0 : goal.returns-then-level-eq0

@@ -7,7 +7,6 @@ use borrow.Author.Tests.{not-true, not-false}
 use Rattle.slices.specs.Records.{steps_in, holds_case}
 use Rattle.slices.specs.Steps.{climbed_in}
 use Rattle.slices.proofs.Outcomes.{none_held, first_climbed, second_climbed, checked, settled, done}
-use borrow.Author.Rules.{rules}
 use Rattle.slices.proofs.step.Goals as goal
 
 pub returns-then-not-holds_case : goal.returns-then-not-holds_case

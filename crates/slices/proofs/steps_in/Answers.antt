@@ -1,5 +1,4 @@
 use Rattle.slices.specs.Records.{steps_in}
-use borrow.Author.Rules.{rules}
 use Rattle.slices.proofs.steps_in.Goals as goal
 
 pub returns : goal.returns

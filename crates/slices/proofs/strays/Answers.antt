@@ -1,5 +1,4 @@
 use Rattle.slices.specs.Steps.{strays_in}
-use borrow.Author.Rules.{rules}
 use Rattle.slices.proofs.strays.Goals as goal
 
 pub returns : goal.returns

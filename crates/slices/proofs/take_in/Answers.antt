@@ -1,5 +1,4 @@
 use Rattle.slices.specs.Records.{with_case}
-use borrow.Author.Rules.{rules}
 use Rattle.slices.proofs.take_in.Goals as goal
 
 pub returns : goal.returns

@@ -1,5 +1,4 @@
 use Rattle.sprout.specs.Hashes.{address_from}
-use borrow.Author.Rules.{rules}
 use Rattle.sprout.proofs.address.Goals as goal
 
 pub returns : goal.returns

@@ -3,7 +3,6 @@ use Rattle.sprout.specs.Hashes.{bound_bytes}
 use native.Mathlib.Omega.{arith}
 use lib.ListN.{length}
 use Rattle.octets.proofs.Joining.{start, next, done}
-use borrow.Author.Rules.{rules}
 use Rattle.sprout.proofs.bound_bytes.Goals as goal
 
 pub returns : goal.returns

@@ -1,5 +1,4 @@
 use Rattle.sprout.specs.Hashes.{commitment_from}
-use borrow.Author.Rules.{rules}
 use Rattle.sprout.proofs.commitment.Goals as goal
 
 pub returns : goal.returns

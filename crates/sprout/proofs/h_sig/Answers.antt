@@ -1,7 +1,6 @@
 use mathlib.Core.Path.{ap, ◌∙◌}
 use Rattle.sprout.specs.Hashes.{h_sig_from, personal}
 use Rattle.blake2b.specs.Hashing.{blake2b_of}
-use borrow.Author.Rules.{rules}
 use Rattle.sprout.proofs.h_sig.Goals as goal
 
 pub returns : goal.returns

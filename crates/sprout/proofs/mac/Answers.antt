@@ -1,5 +1,4 @@
 use Rattle.sprout.specs.Hashes.{mac_from}
-use borrow.Author.Rules.{rules}
 use Rattle.sprout.proofs.mac.Goals as goal
 
 pub returns : goal.returns

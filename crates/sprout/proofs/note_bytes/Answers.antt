@@ -8,7 +8,6 @@ use native.Mathlib.Omega.{arith}
 use lib.ListN.{length}
 use Rattle.octets.specs.Parts.{zeros}
 use Rattle.octets.proofs.Joining.{Laid, next, done}
-use borrow.Author.Rules.{rules}
 use Rattle.sprout.proofs.note_bytes.Goals as goal
 
 pub returns : goal.returns

@@ -1,5 +1,4 @@
 use Rattle.sprout.specs.Hashes.{nullifier_from}
-use borrow.Author.Rules.{rules}
 use Rattle.sprout.proofs.nullifier.Goals as goal
 
 pub returns : goal.returns

@@ -3,7 +3,6 @@ use mathlib.Core.List.{List, ◌++◌}
 use Prim.Native.Nat.{ℕ}
 use Rattle.sha256.specs.Compression.{compress_of}
 use Rattle.sprout.specs.Hashes.{prefixed}
-use borrow.Author.Rules.{rules}
 use Rattle.sprout.proofs.prefixed.Goals as goal
 
 pub returns : goal.returns

@@ -1,5 +1,4 @@
 use Rattle.sprout.specs.Hashes.{rho_from}
-use borrow.Author.Rules.{rules}
 use Rattle.sprout.proofs.rho.Goals as goal
 
 pub returns : goal.returns

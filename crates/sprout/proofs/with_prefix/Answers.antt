@@ -1,6 +1,5 @@
 use mathlib.Core.Path.{refl}
 use Rattle.sprout.specs.Hashes.{with_prefix}
-use borrow.Author.Rules.{rules}
 use Rattle.sprout.proofs.with_prefix.Goals as goal
 
 pub returns : goal.returns

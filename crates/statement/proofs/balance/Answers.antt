@@ -1,7 +1,6 @@
 use mathlib.Core.Path.{sym, ◌∙◌}
 use Rattle.statement.specs.CaseRefusals.{unbalanced_of, no11}
 use Rattle.refusals.proofs.RuleLaws.{one_holds, one_fails}
-use borrow.Author.Rules.{rules}
 use Rattle.statement.proofs.balance.Goals as goal
 
 pub returns-then-unbalanced : goal.returns-then-unbalanced

@@ -3,7 +3,6 @@ use mathlib.Core.Path.{refl, sym, ◌∙◌, ap}
 use Rattle.refusals.specs.Rules.{numbered}
 use Rattle.refusals.proofs.RuleLaws.{stops, goes_on}
 use Rattle.statement.specs.CaseRefusals.{no11, derived_refusals, claim_refusals}
-use borrow.Author.Rules.{rules}
 use Rattle.statement.proofs.claims.Goals as goal
 
 pub returns-then-not-is_accepted : goal.returns-then-not-is_accepted

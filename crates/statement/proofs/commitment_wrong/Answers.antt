@@ -1,5 +1,4 @@
 use Rattle.statement.specs.CaseRefusals.{commitment_wrong}
-use borrow.Author.Rules.{rules}
 use Rattle.statement.proofs.commitment_wrong.Goals as goal
 
 pub returns : goal.returns

@@ -1,7 +1,6 @@
 use mathlib.Core.Path.{ap}
 use mathlib.Core.Bool.{not}
 use Rattle.statement.specs.CaseRefusals.{differs}
-use borrow.Author.Rules.{rules}
 use Rattle.statement.proofs.differ.Goals as goal
 
 pub returns : goal.returns

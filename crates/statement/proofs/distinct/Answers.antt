@@ -1,9 +1,9 @@
 -- After k turns the first k words of the two nullifiers are equal; a word that differs lets them pass at once, and four equal ones are all there is.
-use Prim.Native.Nat.{ℕ, ◌-◌, ◌*◌, ◌≤◌, ◌<◌}
+use Prim.Native.Nat.{ℕ, ◌<◌}
 use mathlib.Core.Path.{◌≡◌, refl, sym, ap₂, ◌∙◌}
 use mathlib.Core.List.{List}
 use native.Mathlib.Omega.{arith}
-use lib.ListN.{length, get_or}
+use lib.ListN.{get_or}
 use Rattle.octets.specs.Parts.{Bytes, listed, field, same}
 use Rattle.casefile.specs.Fields.{nullifier_of}
 use Rattle.refusals.proofs.RuleLaws.{one_holds, one_fails}

@@ -1,15 +1,8 @@
 -- After k turns the first k words of the two nullifiers are equal; a word that differs lets them pass at once, and four equal ones are all there is.
-use Prim.Native.Nat.{ℕ, ◌-◌, ◌*◌, ◌≤◌}
-use mathlib.Core.Path.{◌≡◌, refl, sym, ap₂, ◌∙◌}
-use mathlib.Core.List.{List}
-use native.Mathlib.Omega.{arith}
+use Prim.Native.Nat.{◌-◌, ◌*◌, ◌≤◌}
+use mathlib.Core.Path.{◌≡◌}
 use lib.ListN.{length}
-use Rattle.octets.specs.Parts.{Bytes, listed, field, same}
-use Rattle.casefile.specs.Fields.{nullifier_of}
-use Rattle.refusals.proofs.RuleLaws.{one_holds, one_fails}
-use Rattle.statement.specs.CaseRefusals.{no7}
-use Rattle.statement.proofs.WordLaws.{each_byte, nullifier_bytes, word_differs, word_more, words_same}
-use borrow.Author.Rules.{rules}
+use Rattle.octets.specs.Parts.{field}
 use Rattle.statement.proofs.distinct.Given as goal
 
 abbrev pub invariant-loop-k : goal.invariant-loop-k

@@ -7,7 +7,6 @@ use Rattle.octets.specs.Parts.{same}
 use Rattle.units.specs.Pairs.{number_of}
 use Rattle.casefile.specs.Fields.{old_value_of}
 use Rattle.statement.specs.CaseRefusals.{ends_elsewhere, differs}
-use borrow.Author.Rules.{rules}
 use Rattle.statement.proofs.ends_elsewhere.Goals as goal
 
 pub returns-then-is_zero : goal.returns-then-is_zero

@@ -1,5 +1,4 @@
 use Rattle.statement.specs.CaseRefusals.{h_sig_of}
-use borrow.Author.Rules.{rules}
 use Rattle.statement.proofs.h_sig.Goals as goal
 
 pub returns : goal.returns

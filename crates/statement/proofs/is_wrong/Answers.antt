@@ -1,4 +1,3 @@
-use borrow.Author.Rules.{rules}
 use Rattle.statement.proofs.is_wrong.Goals as goal
 
 pub returns-in-Path : goal.returns-in-Path

@@ -3,7 +3,6 @@ use mathlib.Core.Bool.{not}
 use Rattle.casefile.specs.Fields.{has_length}
 use Rattle.statement.specs.CaseRefusals.{no1}
 use Rattle.refusals.proofs.RuleLaws.{one_holds, one_fails}
-use borrow.Author.Rules.{rules}
 use Rattle.statement.proofs.length.Goals as goal
 
 pub returns-then-has_length : goal.returns-then-has_length

@@ -1,5 +1,4 @@
 use Rattle.statement.specs.CaseRefusals.{nullifier_wrong}
-use borrow.Author.Rules.{rules}
 use Rattle.statement.proofs.nullifier_wrong.Goals as goal
 
 pub returns : goal.returns

@@ -1,5 +1,4 @@
 use Rattle.statement.specs.CaseRefusals.{old_commitment_of}
-use borrow.Author.Rules.{rules}
 use Rattle.statement.proofs.old_commitment.Goals as goal
 
 pub returns : goal.returns

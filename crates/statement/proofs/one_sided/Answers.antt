@@ -6,7 +6,6 @@ use lib.Dec.{eqb}
 use Rattle.casefile.specs.Fields.{vpub_old_of, vpub_new_of}
 use Rattle.statement.specs.CaseRefusals.{no4, both_public}
 use Rattle.refusals.proofs.RuleLaws.{one_holds, one_fails}
-use borrow.Author.Rules.{rules}
 use Rattle.statement.proofs.one_sided.Goals as goal
 
 none : (old new : ℕ) → eqb old 0 ≡ true → both_public old new ≡ false

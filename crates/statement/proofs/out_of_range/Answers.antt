@@ -8,7 +8,6 @@ use Rattle.casefile.specs.Fields.{old_key_of, old_position_of}
 use Rattle.statement.proofs.TestLaws.{not_ltb}
 use mathlib.Core.Path.{◌≡◌, sym, ap, ◌∙◌}
 use Rattle.statement.specs.CaseRefusals.{range_of, out_of_range}
-use borrow.Author.Rules.{rules}
 use Rattle.statement.proofs.out_of_range.Goals as goal
 
 pub returns-then-has_top_bits : goal.returns-then-has_top_bits

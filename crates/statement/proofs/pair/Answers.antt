@@ -4,7 +4,6 @@ use Prim.Native.Nat.{ℕ}
 use Rattle.refusals.specs.Rules.{answer}
 use Rattle.refusals.proofs.RuleLaws.{each_first, each_second, each_none}
 use Rattle.statement.specs.Claims.{claim_wrong, claim_number}
-use borrow.Author.Rules.{rules}
 use Rattle.statement.proofs.pair.Goals as goal
 
 pub returns-then-is_wrong : goal.returns-then-is_wrong

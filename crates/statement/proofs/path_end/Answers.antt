@@ -5,7 +5,6 @@ use Rattle.casefile.specs.Layout.{present_of, of_old}
 use Rattle.casefile.specs.Fields.{old_position_of}
 use Rattle.statement.specs.CaseRefusals.{old_commitment_of, path_end_of}
 use Rattle.statement.proofs.PathLaws.{same_end}
-use borrow.Author.Rules.{rules}
 use Rattle.statement.proofs.path_end.Goals as goal
 
 pub returns : goal.returns

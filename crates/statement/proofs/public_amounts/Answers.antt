@@ -7,7 +7,6 @@ use Rattle.casefile.specs.Fields.{vpub_old_of, vpub_new_of}
 use Rattle.statement.specs.CaseRefusals.{no5, above_money}
 use Rattle.refusals.specs.Rules.{first}
 use Rattle.statement.proofs.TestLaws.{not_leb}
-use borrow.Author.Rules.{rules}
 use Rattle.statement.proofs.public_amounts.Goals as goal
 
 -- the test on an amount that was read

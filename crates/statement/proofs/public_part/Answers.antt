@@ -1,7 +1,7 @@
-use mathlib.Core.Path.{◌≡◌, refl, sym, ap, ◌∙◌}
+use mathlib.Core.Path.{refl, sym, ap, ◌∙◌}
 use mathlib.Core.Bool.{not}
 use mathlib.Core.List.{[], ◌∷◌}
-use Rattle.refusals.specs.Rules.{first, rules_in, numbered}
+use Rattle.refusals.specs.Rules.{rules_in, numbered}
 use Rattle.refusals.proofs.RuleLaws.{stops, goes_on, run_stops, run_goes_on, last_group}
 use Rattle.statement.specs.CaseRefusals.{no1, no4, no5, no7, public_refusals}
 use Rattle.statement.proofs.public_part.Goals as goal

@@ -4,7 +4,6 @@ use mathlib.Core.List.{[], ◌∷◌}
 use Rattle.refusals.specs.Rules.{numbered}
 use Rattle.refusals.proofs.RuleLaws.{stops, goes_on, last_group}
 use Rattle.statement.specs.CaseRefusals.{no4, no5}
-use borrow.Author.Rules.{rules}
 use Rattle.statement.proofs.public_values.Goals as goal
 
 pub returns-then-not-is_accepted : goal.returns-then-not-is_accepted

@@ -5,7 +5,6 @@ use Rattle.statement.specs.CaseRefusals.{range_of, no9}
 use Rattle.refusals.specs.Rules.{first}
 use Rattle.sprout.specs.Hashes.{has_top_bits}
 use Rattle.casefile.specs.Fields.{phi_of}
-use borrow.Author.Rules.{rules}
 use Rattle.statement.proofs.ranges.Goals as goal
 
 pub returns-then-out_of_range : goal.returns-then-out_of_range

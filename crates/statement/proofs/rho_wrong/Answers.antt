@@ -1,5 +1,4 @@
 use Rattle.statement.specs.CaseRefusals.{rho_wrong}
-use borrow.Author.Rules.{rules}
 use Rattle.statement.proofs.rho_wrong.Goals as goal
 
 pub returns : goal.returns

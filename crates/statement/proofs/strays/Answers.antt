@@ -5,7 +5,6 @@ use lib.Dec.{eqb}
 use Rattle.units.specs.Pairs.{number_of}
 use Rattle.casefile.specs.Fields.{old_value_of}
 use Rattle.statement.specs.CaseRefusals.{ends_elsewhere, strays_of}
-use borrow.Author.Rules.{rules}
 use Rattle.statement.proofs.strays.Goals as goal
 
 pub returns-then-is_zero : goal.returns-then-is_zero

@@ -1,5 +1,4 @@
 use Rattle.statement.specs.CaseRefusals.{tag_wrong}
-use borrow.Author.Rules.{rules}
 use Rattle.statement.proofs.tag_wrong.Goals as goal
 
 pub returns : goal.returns

@@ -9,7 +9,6 @@ use borrow.Author.Tests.{eq-eqb, ne_eqb}
 use Rattle.casefile.specs.Fields.{vpub_old_of, vpub_new_of, old_value_of, new_value_of}
 use Rattle.statement.specs.CaseRefusals.{unbalanced_of, unbalanced}
 use Rattle.statement.proofs.TestLaws.{same_parts, whole_tells}
-use borrow.Author.Rules.{rules}
 use Rattle.statement.proofs.unbalanced.Goals as goal
 
 abbrev value_in : List ℕ → ℕ

@@ -1,7 +1,7 @@
-use mathlib.Core.Path.{◌≡◌, refl, sym, ap, ◌∙◌}
+use mathlib.Core.Path.{refl, sym, ap, ◌∙◌}
 use mathlib.Core.Bool.{not}
 use mathlib.Core.List.{◌∷◌}
-use Rattle.refusals.specs.Rules.{first, rules_in, numbered}
+use Rattle.refusals.specs.Rules.{numbered}
 use Rattle.refusals.proofs.RuleLaws.{stops, goes_on}
 use Rattle.statement.specs.CaseRefusals.{no9, no10, claim_refusals, witness_refusals}
 use Rattle.statement.proofs.witness.Goals as goal

@@ -1,13 +1,9 @@
 -- After i turns the first i bytes are on the page, each a text of its own of one byte; at the end these are all bytes.
-use Prim.Native.Nat.{ℕ, ◌-◌, ◌*◌, ◌≤◌}
-use mathlib.Core.Path.{◌≡◌, refl, ◌∙◌}
+use Prim.Native.Nat.{◌-◌, ◌*◌, ◌≤◌}
+use mathlib.Core.Path.{◌≡◌}
 use mathlib.Core.List.{[], ◌∷◌, flat_map}
-use native.Mathlib.Omega.{arith}
 use lib.ListN.{length, take}
-use lib.Seq.{take_all}
 use Rattle.text.specs.Pen.{pen, Wrote}
-use Rattle.text.proofs.PenLaws.{start, one_more, each_byte, text_as}
-use borrow.Author.Rules.{rules}
 use Rattle.text.proofs.put.Given as goal
 
 abbrev pub invariant-loop-i : goal.invariant-loop-i

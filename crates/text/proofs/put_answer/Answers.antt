@@ -1,7 +1,6 @@
 use native.Mathlib.Omega.{arith}
 use Rattle.text.proofs.AnswerLaws.{answer_as}
 use Rattle.text.proofs.PenLaws.{then, text_as}
-use borrow.Author.Rules.{rules}
 use Rattle.text.proofs.put_answer.Goals as goal
 
 pub returns : goal.returns

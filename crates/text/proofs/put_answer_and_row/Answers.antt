@@ -2,7 +2,6 @@ use mathlib.Core.Path.{refl}
 use native.Mathlib.Omega.{arith}
 use Rattle.text.specs.Answers.{answer_and_row}
 use Rattle.text.proofs.PenLaws.{then, text_as}
-use borrow.Author.Rules.{rules}
 use Rattle.text.proofs.put_answer_and_row.Goals as goal
 
 pub returns : goal.returns

@@ -2,7 +2,6 @@ use mathlib.Core.Path.{refl}
 use native.Mathlib.Omega.{arith}
 use Rattle.text.specs.Answers.{answer_line}
 use Rattle.text.proofs.PenLaws.{then, text_as}
-use borrow.Author.Rules.{rules}
 use Rattle.text.proofs.put_answer_line.Goals as goal
 
 pub returns : goal.returns

@@ -1,5 +1,4 @@
 use Rattle.text.proofs.PenLaws.{then}
-use borrow.Author.Rules.{rules}
 use Rattle.text.proofs.put_count.Goals as goal
 
 pub returns : goal.returns

@@ -1,12 +1,10 @@
 -- After i turns the digits of the first i bytes are on the page, two for each; at the end these are those of all bytes.
-use Prim.Native.Nat.{ℕ, ◌-◌, ◌*◌, ◌≤◌}
-use mathlib.Core.Path.{◌≡◌, refl, ap, ◌∙◌}
+use Prim.Native.Nat.{ℕ}
+use mathlib.Core.Path.{refl, ap, ◌∙◌}
 use mathlib.Core.List.{flat_map}
 use native.Mathlib.Omega.{arith}
-use lib.ListN.{length, take}
 use lib.Seq.{take_all}
 use Rattle.text.specs.Hex.{hex_byte, hex}
-use Rattle.text.specs.Pen.{pen, Wrote}
 use Rattle.text.proofs.PenLaws.{start, one_more, text_as}
 use borrow.Author.Rules.{rules}
 use Rattle.text.proofs.put_hex.Goals as goal

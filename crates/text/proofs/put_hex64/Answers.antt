@@ -4,7 +4,6 @@ use lib.ListN.{length}
 use Rattle.octets.proofs.NumberLaws.{big_bytes_length}
 use Rattle.text.specs.Hex.{hex, hex64}
 use Rattle.text.proofs.PenLaws.{text_as}
-use borrow.Author.Rules.{rules}
 use Rattle.text.proofs.put_hex64.Goals as goal
 
 pub returns : goal.returns

@@ -1,7 +1,6 @@
 use native.Mathlib.Omega.{arith}
 use Rattle.text.proofs.AnswerLaws.{name_as}
 use Rattle.text.proofs.PenLaws.{then, text_as}
-use borrow.Author.Rules.{rules}
 use Rattle.text.proofs.put_name_line.Goals as goal
 
 pub returns : goal.returns

@@ -3,7 +3,6 @@ use native.Mathlib.Omega.{arith}
 use borrow.Author.Tests.{ne_eqb}
 use Rattle.text.specs.Answers.{spent_row_line}
 use Rattle.text.proofs.PenLaws.{start, then, text_as}
-use borrow.Author.Rules.{rules}
 use Rattle.text.proofs.put_spent_row.Goals as goal
 
 pub returns-then-a-eq8 : goal.returns-then-a-eq8

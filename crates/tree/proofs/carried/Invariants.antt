@@ -1,17 +1,11 @@
 -- Adding the leaf to the whole record is to keep its first k rows and to add x, the node that is carried, to those from k on; the loop ends where the count is even or no level is left, and there x is put in row k.
-use mathlib.Core.Path.{◌≡◌, refl, sym, ap, ◌∙◌}
-use Prim.Native.Nat.{ℕ, ◌≤◌, ◌-◌, ◌%◌}
-use mathlib.Core.List.{List, ◌++◌}
-use mathlib.Core.Logic.{⊎_elim}
-use native.Mathlib.Omega.{arith}
-use borrow.Author.Tests.{eqb-true, eqb-false}
+use mathlib.Core.Path.{◌≡◌}
+use Prim.Native.Nat.{◌≤◌, ◌-◌}
+use mathlib.Core.List.{◌++◌}
 use lib.ListN.{length, take, drop}
-use Rattle.octets.specs.Rows.{rows_of, flat}
+use Rattle.octets.specs.Rows.{rows_of}
 use Rattle.nodes.specs.Trees.{push}
 use Rattle.nodes.specs.CommitmentTree.{parent_of}
-use Rattle.nodes.proofs.Empties.{parent_length}
-use Rattle.tree.proofs.Turns.{push_turn, push_full, push_free, Ended}
-use borrow.Author.Rules.{rules}
 use Rattle.tree.proofs.carried.Given as goal
 
 abbrev pub invariant-loop-k : goal.invariant-loop-k

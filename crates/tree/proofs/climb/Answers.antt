@@ -1,12 +1,8 @@
 -- The end of the whole path from the leaf is that of the path from level k on, from the node reached; a turn is one step up, and after 29 turns no sibling is left.
-use mathlib.Core.Path.{◌≡◌, refl, sym, ap, ◌∙◌}
-use Prim.Native.Nat.{◌≤◌, ◌-◌}
+use mathlib.Core.Path.{refl, sym, ap, ◌∙◌}
 use native.Mathlib.Omega.{arith}
-use lib.ListN.{drop}
-use Rattle.nodes.specs.Trees.{climb_of}
-use Rattle.nodes.specs.CommitmentTree.{parent_of}
 use Rattle.tree.specs.Record.{path_end, step_of}
-use Rattle.tree.proofs.Turns.{siblings, climb_turn, climb_end}
+use Rattle.tree.proofs.Turns.{climb_turn, climb_end}
 use borrow.Author.Rules.{rules}
 use Rattle.tree.proofs.climb.Goals as goal
 

@@ -4,7 +4,6 @@ use mathlib.Core.List.{List}
 use native.Mathlib.Omega.{arith}
 use Rattle.nodes.specs.Trees.{join_of}
 use Rattle.nodes.specs.CommitmentTree.{parent_of, empty_root}
-use borrow.Author.Rules.{rules}
 use Rattle.tree.proofs.join.Goals as goal
 
 pub returns-then-count-eq0 : goal.returns-then-count-eq0

@@ -1,7 +1,6 @@
 use mathlib.Core.Path.{ap, ◌∙◌}
 use Rattle.tree.specs.RecordBytes.{record_at}
 use Rattle.tree.proofs.RecordLaws.{record_part}
-use borrow.Author.Rules.{rules}
 use Rattle.tree.proofs.record_padded.Goals as goal
 
 pub returns : goal.returns

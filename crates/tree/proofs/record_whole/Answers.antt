@@ -10,7 +10,6 @@ use Rattle.octets.specs.Numbers.{little}
 use Rattle.octets.proofs.PartLaws.{field_part, zeros_length}
 use Rattle.octets.proofs.Joining.{start, next, done}
 use Rattle.tree.specs.declared.Tree.{Tree}
-use borrow.Author.Rules.{rules}
 use Rattle.tree.proofs.record_whole.Goals as goal
 
 four : (at : ℕ) (b : List ℕ) → little (get_or b at 0 ∷ get_or b (at + 1) 0 ∷ get_or b (at + 2) 0 ∷ get_or b (at + 3) 0 ∷ []) ≡ little (field at 4 b)

@@ -4,7 +4,6 @@ use native.Mathlib.Omega.{arith}
 use borrow.Author.Tests.{eqb-true, eqb-false}
 use Rattle.nodes.specs.Trees.{up_of}
 use Rattle.tree.specs.Record.{step_of}
-use borrow.Author.Rules.{rules}
 use Rattle.tree.proofs.step_up.Goals as goal
 
 pub returns-then-is_right : goal.returns-then-is_right

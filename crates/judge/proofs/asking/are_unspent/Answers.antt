@@ -5,7 +5,6 @@ use Rattle.refusals.specs.Rules.{first}
 use Rattle.ledger.specs.Rows.{among}
 use Rattle.ledger.specs.Ledgers.{spent_rows, no8}
 use Rattle.ledger.proofs.Spent.{first_spent, second_spent, none_spent}
-use borrow.Author.Rules.{rules}
 use Rattle.judge.proofs.asking.are_unspent.Goals as goal
 
 pub returns-then-counts-eq0 : goal.returns-then-counts-eq0

@@ -11,7 +11,6 @@ use Rattle.ledgerbytes.specs.LedgerBytes.{bare}
 use Rattle.judge.specs.Judging.{front_refusals, middle_refusals}
 use Rattle.judge.proofs.Halves.{front_lower}
 use Rattle.judge.proofs.Weighing.{asked_sound, past_2, past_3}
-use borrow.Author.Rules.{rules}
 use Rattle.judge.proofs.asking.ask.Goals as goal
 
 pub returns-then-not-is_accepted : goal.returns-then-not-is_accepted

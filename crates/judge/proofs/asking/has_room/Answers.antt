@@ -5,7 +5,6 @@ use native.Mathlib.Omega.{arith}
 use borrow.Author.Tests.{lt-ltb, le-ltb}
 use Rattle.ledger.specs.Ledgers.{most_nullifiers, room_in, no3}
 use Rattle.refusals.proofs.RuleLaws.{one_holds, one_fails}
-use borrow.Author.Rules.{rules}
 use Rattle.judge.proofs.asking.has_room.Goals as goal
 
 pub returns-then-room-lt2 : goal.returns-then-room-lt2

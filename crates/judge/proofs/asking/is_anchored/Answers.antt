@@ -7,7 +7,6 @@ use Rattle.refusals.proofs.RuleLaws.{one_holds, one_fails}
 use Rattle.casefile.specs.Fields.{anchor_of}
 use Rattle.ledger.specs.Rows.{among}
 use Rattle.ledger.specs.Ledgers.{anchor_rows, no6}
-use borrow.Author.Rules.{rules}
 use Rattle.judge.proofs.asking.is_anchored.Goals as goal
 
 pub returns-then-stands_on : goal.returns-then-stands_on

@@ -10,7 +10,6 @@ use Rattle.units.specs.Limits.{max_money}
 use Rattle.ledger.specs.Ledgers.{most_nullifiers, most_anchors, room_in, spent_rows, some, damage, damaged}
 use Rattle.ledger.proofs.Soundness.{some_at, within}
 use Rattle.ledgerbytes.specs.LedgerBytes.{bare}
-use borrow.Author.Rules.{rules}
 use Rattle.judge.proofs.asking.is_damaged.Goals as goal
 
 pub returns-then-n-ne0 : goal.returns-then-n-ne0

@@ -1,7 +1,6 @@
 use mathlib.Core.Path.{sym, ◌∙◌}
 use Rattle.ledger.specs.Ledgers.{no2}
 use Rattle.refusals.proofs.RuleLaws.{one_holds, one_fails}
-use borrow.Author.Rules.{rules}
 use Rattle.judge.proofs.asking.sound.Goals as goal
 
 pub returns-then-is_damaged : goal.returns-then-is_damaged

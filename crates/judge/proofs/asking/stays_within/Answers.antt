@@ -3,7 +3,6 @@ use Prim.Native.Nat.{ℕ}
 use Rattle.refusals.proofs.RuleLaws.{one_holds, one_fails}
 use Rattle.ledger.specs.Ledgers.{outside, no17}
 use Rattle.casefile.specs.Fields.{vpub_old_of, vpub_new_of}
-use borrow.Author.Rules.{rules}
 use Rattle.judge.proofs.asking.stays_within.Goals as goal
 
 pub returns-then-is_outside : goal.returns-then-is_outside

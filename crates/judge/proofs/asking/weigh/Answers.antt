@@ -11,7 +11,6 @@ use Rattle.ledgerbytes.specs.LedgerBytes.{bare}
 use Rattle.judge.specs.Judging.{ledgers_own}
 use Rattle.judge.proofs.Halves.{pool_refusals}
 use Rattle.judge.proofs.Weighing.{own_counts, group_counts, from_middle, middle_weighed, asked_sound, past_2, past_3}
-use borrow.Author.Rules.{rules}
 use Rattle.judge.proofs.asking.weigh.Goals as goal
 
 pub returns-then-refuses_up_to : goal.returns-then-refuses_up_to

@@ -12,7 +12,6 @@ use Rattle.ledger.proofs.Soundness.{Sound, undamaged, within}
 use Rattle.ledgerbytes.specs.LedgerBytes.{bare}
 use Rattle.judge.specs.Judging.{middle_refusals}
 use Rattle.judge.proofs.Weighing.{own_counts, group_counts}
-use borrow.Author.Rules.{rules}
 use Rattle.judge.proofs.asking.weigh_middle.Goals as goal
 
 pub returns-then-refuses_up_to : goal.returns-then-refuses_up_to

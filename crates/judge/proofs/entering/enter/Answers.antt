@@ -6,7 +6,6 @@ use Rattle.tree.specs.declared.Tree.{Tree}
 use Rattle.tree.specs.Record.{grown, with_leaf_of}
 use Rattle.ledger.specs.Ledgers.{most_nullifiers, spent_rows, entered_of}
 use Rattle.ledger.proofs.Soundness.{within, at_most}
-use borrow.Author.Rules.{rules}
 use Rattle.judge.proofs.entering.enter.Goals as goal
 
 pub enter_two-requires : goal.enter_two-requires

@@ -2,7 +2,6 @@ use native.Mathlib.Omega.{arith}
 use mathlib.Core.Path.{◌∙◌}
 use borrow.Author.Tests.{lt-ltb}
 use Rattle.ledger.proofs.Pools.{is_below, is_above, falls, rises}
-use borrow.Author.Rules.{rules}
 use Rattle.judge.proofs.money.is_outside.Goals as goal
 
 pub returns-then-p-fall : goal.returns-then-p-fall

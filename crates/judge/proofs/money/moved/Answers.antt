@@ -1,7 +1,6 @@
 use native.Mathlib.Omega.{arith}
 use Rattle.ledger.specs.Ledgers.{pool_after}
 use Rattle.ledger.proofs.Pools.{not_below, not_above}
-use borrow.Author.Rules.{rules}
 use Rattle.judge.proofs.money.moved.Goals as goal
 
 pub overflow_sub-p : goal.overflow_sub-p

@@ -4,7 +4,6 @@ use native.Mathlib.Omega.{arith}
 use lib.ListN.{take, drop}
 use Rattle.ledger.specs.Rows.{decided, byte_order}
 use Rattle.ledger.proofs.ByteOrder.{decided_below, decided_above, first_turn}
-use borrow.Author.Rules.{rules}
 use Rattle.judge.proofs.order.compare.Goals as goal
 
 pub returns-then-x-y : goal.returns-then-x-y

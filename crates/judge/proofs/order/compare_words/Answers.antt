@@ -1,6 +1,6 @@
 -- The order of the two rows is the order of what is left of them from word k on: two words that differ decide it, two that are equal hand it on to the next, and after four the rows are equal.
 use mathlib.Core.Path.{◌≡◌, sym, ◌∙◌}
-use Prim.Native.Nat.{◌+◌, ◌-◌, ◌≤◌}
+use Prim.Native.Nat.{◌+◌}
 use native.Mathlib.Nat.{add-zero}
 use native.Mathlib.Omega.{arith}
 use lib.ListN.{take, drop}

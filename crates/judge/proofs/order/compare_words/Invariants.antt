@@ -1,12 +1,9 @@
 -- The order of the two rows is the order of what is left of them from word k on: two words that differ decide it, two that are equal hand it on to the next, and after four the rows are equal.
-use mathlib.Core.Path.{◌≡◌, sym, ◌∙◌}
-use Prim.Native.Nat.{◌+◌, ◌-◌, ◌≤◌}
-use native.Mathlib.Nat.{add-zero}
-use native.Mathlib.Omega.{arith}
+use mathlib.Core.Path.{◌≡◌}
+use Prim.Native.Nat.{◌-◌, ◌≤◌}
 use lib.ListN.{take, drop}
-use Rattle.ledger.specs.Rows.{decided, byte_order}
-use Rattle.ledger.proofs.ByteOrder.{decided_below, decided_above, decided_level, from_word, word_turn}
-use borrow.Author.Rules.{rules}
+use Rattle.ledger.specs.Rows.{byte_order}
+use Rattle.ledger.proofs.ByteOrder.{from_word}
 use Rattle.judge.proofs.order.compare_words.Given as goal
 
 abbrev pub invariant-loop-k : goal.invariant-loop-k

@@ -5,7 +5,6 @@ use lib.ListN.{take, drop}
 use Rattle.ledger.specs.Sorted.{is_less}
 use Rattle.ledger.specs.Rows.{decided, byte_order}
 use Rattle.ledger.proofs.ByteOrder.{decided_below, decided_above, first_turn}
-use borrow.Author.Rules.{rules}
 use Rattle.judge.proofs.order.is_below.Goals as goal
 
 pub returns-then-x-y : goal.returns-then-x-y

@@ -1,14 +1,9 @@
 -- As for `compare_words`, the order of the two rows is that of what is left of them from word k on; the answer is whether that order is `Equal`.
-use mathlib.Core.Path.{◌≡◌, sym, ap, ◌∙◌}
-use Prim.Native.Nat.{◌+◌, ◌-◌, ◌≤◌}
-use native.Mathlib.Nat.{add-zero}
-use native.Mathlib.Omega.{arith}
+use mathlib.Core.Path.{◌≡◌}
+use Prim.Native.Nat.{◌-◌, ◌≤◌}
 use lib.ListN.{take, drop}
-use Rattle.ledger.specs.declared.Order.TheVariants.{Equal}
-use Rattle.ledger.specs.Sorted.{is_equal}
-use Rattle.ledger.specs.Rows.{decided, byte_order}
-use Rattle.ledger.proofs.ByteOrder.{decided_below, decided_above, decided_level, from_word, word_turn}
-use borrow.Author.Rules.{rules}
+use Rattle.ledger.specs.Rows.{byte_order}
+use Rattle.ledger.proofs.ByteOrder.{from_word}
 use Rattle.judge.proofs.order.is_same.Given as goal
 
 abbrev pub invariant-loop-k : goal.invariant-loop-k

@@ -1,7 +1,6 @@
 use native.Mathlib.Nat.{add-zero}
 use Rattle.octets.specs.Parts.{listed, field}
 use Rattle.octets.proofs.PartLaws.{field_part}
-use borrow.Author.Rules.{rules}
 use Rattle.judge.proofs.order.word.Goals as goal
 
 pub returns : goal.returns

@@ -11,7 +11,6 @@ use Rattle.ledger.proofs.ByteOrder.{byte_total}
 use Rattle.ledger.proofs.Sorting.{place_le}
 use Rattle.ledger.proofs.RowLaws.{put_row}
 use Rattle.octets.proofs.RowLaws.{rows_length}
-use borrow.Author.Rules.{rules}
 use Rattle.judge.proofs.table.enter_one.Goals as goal
 
 pub shift-requires : goal.shift-requires

@@ -3,7 +3,6 @@ use mathlib.Core.List.{List}
 use Prim.Native.Nat.{ℕ, ◌+◌}
 use Rattle.ledger.specs.Rows.{with_row}
 use Rattle.ledger.proofs.TableLaws.{second_room, second_rising, second_gap, entered_both}
-use borrow.Author.Rules.{rules}
 use Rattle.judge.proofs.table.enter_two.Goals as goal
 
 pub enter_one-requires-2 : goal.enter_one-requires-2

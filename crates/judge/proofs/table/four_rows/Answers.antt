@@ -1,10 +1,8 @@
 -- After i turns the array has the first i bytes from `at` on and zeros behind them.
 use mathlib.Core.Path.{refl}
-use Prim.Native.Nat.{◌+◌, ◌-◌, ◌≤◌}
 use native.Mathlib.Omega.{arith}
-use lib.ListN.{get_or}
 use Rattle.octets.specs.Parts.{listed, field}
-use Rattle.octets.proofs.Filling.{Filled, next, full}
+use Rattle.octets.proofs.Filling.{next, full}
 use borrow.Author.Rules.{rules}
 use Rattle.judge.proofs.table.four_rows.Goals as goal
 

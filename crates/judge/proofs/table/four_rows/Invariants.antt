@@ -1,11 +1,7 @@
 -- After i turns the array has the first i bytes from `at` on and zeros behind them.
-use mathlib.Core.Path.{refl}
 use Prim.Native.Nat.{◌+◌, ◌-◌, ◌≤◌}
-use native.Mathlib.Omega.{arith}
 use lib.ListN.{get_or}
-use Rattle.octets.specs.Parts.{listed, field}
-use Rattle.octets.proofs.Filling.{Filled, next, full}
-use borrow.Author.Rules.{rules}
+use Rattle.octets.proofs.Filling.{Filled}
 use Rattle.judge.proofs.table.four_rows.Given as goal
 
 abbrev pub invariant-loop-i : goal.invariant-loop-i

@@ -2,7 +2,7 @@
 use mathlib.Core.Path.{◌≡◌, sym, ap, ap₂, ◌∙◌}
 use mathlib.Core.Bool.{Bool, true, ◌&&◌, not}
 use mathlib.Core.List.{List}
-use Prim.Native.Nat.{ℕ, ◌+◌, ◌-◌, ◌*◌, ◌<◌, ◌≤◌}
+use Prim.Native.Nat.{ℕ, ◌+◌, ◌*◌, ◌<◌, ◌≤◌}
 use native.Mathlib.Omega.{arith}
 use borrow.Author.Tests.{ltb-true, ltb-false, not-true, not-false}
 use lib.ListN.{take, drop}
@@ -13,7 +13,6 @@ use Rattle.ledger.proofs.ByteOrder.{byte_total}
 use Rattle.ledger.proofs.Sorting.{rising_end}
 use Rattle.ledger.proofs.RowLaws.{rising_turn}
 use Rattle.octets.proofs.RowLaws.{rows_length}
-use borrow.Author.Rules.{rules}
 use Rattle.judge.proofs.table.is_rising.Goals as goal
 
 -- whether the rows from number k on rise

@@ -1,19 +1,12 @@
 -- The table rises exactly when its rows from the next one on do. First words hand that on up to a row, and that row and the one after it are compared in full: a pair that does not rise says no, and with no pair left the answer is yes.
-use mathlib.Core.Path.{◌≡◌, sym, ap, ap₂, ◌∙◌}
-use mathlib.Core.Bool.{Bool, true, ◌&&◌}
+use mathlib.Core.Path.{◌≡◌}
+use mathlib.Core.Bool.{Bool}
 use mathlib.Core.List.{List}
-use Prim.Native.Nat.{ℕ, ◌+◌, ◌-◌, ◌*◌, ◌<◌, ◌≤◌}
-use native.Mathlib.Omega.{arith}
-use borrow.Author.Tests.{ltb-true, ltb-false, not-true, not-false}
-use lib.ListN.{take, drop}
-use Rattle.ledger.specs.Sorted.{is_less, rising}
+use Prim.Native.Nat.{ℕ, ◌-◌}
+use lib.ListN.{drop}
+use Rattle.ledger.specs.Sorted.{rising}
 use Rattle.ledger.specs.Rows.{byte_order}
 use Rattle.octets.specs.Rows.{rows_of}
-use Rattle.ledger.proofs.ByteOrder.{byte_total}
-use Rattle.ledger.proofs.Sorting.{rising_end}
-use Rattle.ledger.proofs.RowLaws.{rising_turn}
-use Rattle.octets.proofs.RowLaws.{rows_length}
-use borrow.Author.Rules.{rules}
 use Rattle.judge.proofs.table.is_rising.Given as goal
 
 -- whether the rows from number k on rise

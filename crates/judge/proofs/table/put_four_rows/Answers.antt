@@ -1,9 +1,8 @@
 -- After i turns the table is the old one with the first i bytes of the rows pasted at `at`.
-use mathlib.Core.Path.{◌≡◌, refl, ◌∙◌}
-use Prim.Native.Nat.{◌-◌, ◌≤◌}
+use mathlib.Core.Path.{refl, ◌∙◌}
 use native.Mathlib.Omega.{arith}
-use lib.ListN.{length, length-set}
-use lib.Seq.{paste, paste-zero}
+use lib.ListN.{length-set}
+use lib.Seq.{paste-zero}
 use Rattle.octets.proofs.PartLaws.{pasting, pasting_done}
 use borrow.Author.Rules.{rules}
 use Rattle.judge.proofs.table.put_four_rows.Goals as goal

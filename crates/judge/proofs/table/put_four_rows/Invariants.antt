@@ -1,11 +1,8 @@
 -- After i turns the table is the old one with the first i bytes of the rows pasted at `at`.
-use mathlib.Core.Path.{◌≡◌, refl, ◌∙◌}
+use mathlib.Core.Path.{◌≡◌}
 use Prim.Native.Nat.{◌-◌, ◌≤◌}
-use native.Mathlib.Omega.{arith}
-use lib.ListN.{length, length-set}
-use lib.Seq.{paste, paste-zero}
-use Rattle.octets.proofs.PartLaws.{pasting, pasting_done}
-use borrow.Author.Rules.{rules}
+use lib.ListN.{length}
+use lib.Seq.{paste}
 use Rattle.judge.proofs.table.put_four_rows.Given as goal
 
 abbrev pub invariant-loop-i : goal.invariant-loop-i

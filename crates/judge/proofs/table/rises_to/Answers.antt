@@ -1,17 +1,14 @@
 -- The rows from the first one on rise exactly if those from the row held on do; the word held is that row's first one, and eight words that each are above the one before hand it on to the eighth row after.
 use mathlib.Core.Path.{◌≡◌, refl, ◌∙◌}
 use mathlib.Core.List.{List}
-use Prim.Native.Nat.{ℕ, ◌+◌, ◌-◌, ◌*◌, ◌/◌, ◌<◌, ◌≤◌}
+use Prim.Native.Nat.{ℕ, ◌+◌, ◌*◌, ◌/◌, ◌<◌, ◌≤◌}
 use native.Mathlib.Omega.{arith}
-use borrow.Author.Tests.{leb-false}
-use lib.ListN.{take, drop}
-use Rattle.octets.specs.Numbers.{big}
+use lib.ListN.{drop}
 use Rattle.octets.specs.Rows.{rows_of}
 use Rattle.ledger.specs.Sorted.{rising}
 use Rattle.ledger.specs.Rows.{byte_order}
 use Rattle.ledger.proofs.ByteOrder.{Bytes}
 use Rattle.ledger.proofs.RowLaws.{rising_by_words}
-use borrow.Author.Rules.{rules}
 use Rattle.judge.proofs.HeldRow.{Held}
 use Rattle.judge.proofs.table.rises_to.Goals as goal
 

@@ -5,11 +5,9 @@ use mathlib.Core.List.{List}
 use Prim.Native.Nat.{ℕ, suc, ◌-◌, ◌/◌, ◌<◌, ◌≤◌}
 use native.Mathlib.Omega.{arith}
 use borrow.Author.Tests.{ltb-true, ltb-false}
-use lib.Ieee.{size}
 use lib.ListN.{take, drop}
 use lib.Seq.{take_all}
 use Rattle.ledger.specs.Rows.{byte_order, row_at}
-use Rattle.ledger.specs.declared.Order.TheVariants.{Less, Greater}
 use Rattle.ledger.proofs.RowLaws.{stands_at, goes_at}
 use Rattle.judge.proofs.Spans.{half_is_shorter}
 use borrow.Author.Rules.{rules}

@@ -4,7 +4,6 @@ use Prim.Native.Nat.{ℕ}
 use native.Mathlib.Omega.{arith}
 use Rattle.ledger.specs.Rows.{shifted}
 use Rattle.ledger.proofs.RowLaws.{shifted_more}
-use borrow.Author.Rules.{rules}
 use Rattle.judge.proofs.table.shift.Goals as goal
 
 pub start_of-low-requires : goal.start_of-low-requires

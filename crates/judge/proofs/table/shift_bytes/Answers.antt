@@ -1,9 +1,9 @@
 -- The index falls: the bytes from i up to the end are already moved by 32 and those below i are still as they were, so that no byte is overwritten before it was moved.
 use mathlib.Core.Path.{◌≡◌, refl, ap, ◌∙◌}
 use mathlib.Core.List.{List}
-use Prim.Native.Nat.{ℕ, suc, ◌+◌, ◌-◌, ◌≤◌}
+use Prim.Native.Nat.{ℕ, suc, ◌+◌, ◌-◌}
 use native.Mathlib.Omega.{arith}
-use lib.ListN.{length, get_or, set, length-set}
+use lib.ListN.{get_or, set, length-set}
 use Rattle.ledger.specs.Rows.{shifted}
 use Rattle.ledger.proofs.RowLaws.{shifted_none, shifted_step}
 use borrow.Author.Rules.{rules}

@@ -1,12 +1,8 @@
 -- The index falls by eight rows: the bytes from i up to the end are moved and those below are still as they were; a turn moves four rows and the four below them, and by the law `shifted_more` that is one move of all.
-use mathlib.Core.Path.{◌≡◌, refl, ap₂, ◌∙◌}
-use mathlib.Core.List.{List}
-use Prim.Native.Nat.{ℕ, ◌+◌, ◌-◌, ◌≤◌}
-use native.Mathlib.Omega.{arith}
+use mathlib.Core.Path.{◌≡◌}
+use Prim.Native.Nat.{◌≤◌}
 use lib.ListN.{length}
 use Rattle.ledger.specs.Rows.{shifted}
-use Rattle.ledger.proofs.RowLaws.{shifted_none, shifted_more}
-use borrow.Author.Rules.{rules}
 use Rattle.judge.proofs.table.shift_eights.Given as goal
 
 abbrev pub invariant-loop-i : goal.invariant-loop-i

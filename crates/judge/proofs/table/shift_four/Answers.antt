@@ -6,7 +6,6 @@ use lib.ListN.{length}
 use Rattle.octets.specs.Parts.{pasted}
 use Rattle.octets.proofs.PartLaws.{field_length}
 use Rattle.ledger.proofs.RowLaws.{shifted_block}
-use borrow.Author.Rules.{rules}
 use Rattle.judge.proofs.table.shift_four.Goals as goal
 
 pub four_rows-rows-requires : goal.four_rows-rows-requires

@@ -1,14 +1,10 @@
 -- The record's root is what joining its nodes from level k on gives, with the node made so far and the empty root of level k; at level 29 it is that node, or the top row where the tree is full.
-use mathlib.Core.Path.{◌≡◌, refl, sym, ◌∙◌}
+use mathlib.Core.Path.{◌≡◌}
 use Prim.Native.Nat.{◌≤◌, ◌-◌}
-use native.Mathlib.Omega.{arith}
 use lib.ListN.{length, drop}
 use Rattle.octets.specs.Rows.{rows_of}
-use Rattle.nodes.specs.Trees.{fold_of, empty_at}
+use Rattle.nodes.specs.Trees.{fold_of}
 use Rattle.nodes.specs.CommitmentTree.{parent_of, empty_leaf, empty_root}
-use Rattle.tree.specs.Record.{record_root}
-use Rattle.tree.proofs.Turns.{fold_turn, fold_open, fold_full}
-use borrow.Author.Rules.{rules}
 use Rattle.tree.proofs.Tree.root.Given as goal
 
 abbrev pub invariant-loop-k : goal.invariant-loop-k

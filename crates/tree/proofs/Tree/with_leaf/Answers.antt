@@ -3,7 +3,6 @@ use Prim.Native.Nat.{ℕ, ◌+◌}
 use mathlib.Core.List.{List}
 use native.Mathlib.Omega.{arith}
 use Rattle.tree.proofs.Grown.{with_leaf, with_full}
-use borrow.Author.Rules.{rules}
 use Rattle.tree.proofs.Tree.with_leaf.Goals as goal
 
 pub returns-then-self-ge-TREE_LEAVES : goal.returns-then-self-ge-TREE_LEAVES

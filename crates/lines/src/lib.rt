@@ -8,8 +8,8 @@ ghost use Rattle.std.specs.Io.KnownBytes.{Consumes};
 
 use std::io::{ErrorKind, Read};
 
-// Writes a whole text to standard output, and answers whether it could be written. A program has no exit status, so
-// a failure is told on standard error.
+// Writes a whole text to standard output, and answers whether it could be written. The programs end with status 0 all
+// the same, so a failure is told on standard error.
 pub fn print(rt: &(impl Print + Eprint), text: &[u8]) -> bool {
     if rt.write_all(text).is_ok() {
         return true;

@@ -1,4 +1,4 @@
-use Rattle.std.proofs.Common.{ap, arith, rules}
+use Rattle.std.proofs.Common.{ap, arith}
 use Rattle.text.specs.Words.{ascii}
 use Rattle.text.specs.Answers.{answer_line}
 use Rattle.text.proofs.PenLaws.{text_as}

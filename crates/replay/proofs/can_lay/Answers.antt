@@ -1,4 +1,4 @@
-use Rattle.std.proofs.Common.{arith, rules, ne_eqb}
+use Rattle.std.proofs.Common.{arith, ne_eqb}
 use Rattle.replay.specs.Tape.{can_lay}
 use Rattle.replay.proofs.can_lay.Goals as goal
 

@@ -1,5 +1,5 @@
 -- After i turns the buffer is i zeros and then what was there from i on; at its end nothing of the old bytes is left.
-use Rattle.std.proofs.Common.{◌≡◌, ℕ, ◌-◌, ◌<◌, ◌≤◌, List, ◌++◌, length, drop, set, replicate, ap, ◌∙◌, append-nil, arith, length-set, rules}
+use Rattle.std.proofs.Common.{◌≡◌, ℕ, ◌<◌, List, length, set, replicate, ap, ◌∙◌, append-nil, arith, length-set, rules}
 use lib.Seq.{drop-length}
 use borrow.Author.Fill.{fill_more}
 use Rattle.replay.proofs.clear.Goals as goal

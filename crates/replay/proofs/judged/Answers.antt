@@ -1,4 +1,4 @@
-use Rattle.std.proofs.Common.{ℕ, List, ◌++◌, drop, sym, ap, length-take-le, rules}
+use Rattle.std.proofs.Common.{ℕ, List, ◌++◌, drop, sym, ap, length-take-le}
 use Rattle.replay.proofs.judged.Goals as goal
 
 pub slice_bounds-judge-end-2 : goal.slice_bounds-judge-end-2

@@ -1,4 +1,4 @@
-use Rattle.std.proofs.Common.{ℕ, ◌+◌, List, take, drop, ap, ◌∙◌, arith, rules}
+use Rattle.std.proofs.Common.{ℕ, ◌+◌, List, take, drop, ap, ◌∙◌, arith}
 use Rattle.octets.specs.Parts.{pasted}
 use Rattle.replay.specs.Tape.{row_laid}
 use Rattle.replay.proofs.lay_row.Goals as goal

@@ -1,7 +1,6 @@
 -- What all the rows leave is what those that are left make of what the rows so far have left.
-use Rattle.std.proofs.Common.{◌≡◌, ◌+◌, ◌-◌, ◌*◌, ◌≤◌, length, take, drop, sym, refl, ◌∙◌, arith, rules}
-use Rattle.replay.specs.Tape.{rows_laid, laid_by}
-use Rattle.replay.proofs.TurnLaws.{rows_same, rows_turn, rows_none}
+use Rattle.std.proofs.Common.{◌≡◌, ◌+◌, ◌-◌, ◌*◌, ◌≤◌, length, take, drop}
+use Rattle.replay.specs.Tape.{rows_laid}
 use Rattle.replay.proofs.lay_rows.Given as goal
 
 abbrev pub invariant-loop-i : goal.invariant-loop-i

@@ -1,4 +1,4 @@
-use Rattle.std.proofs.Common.{ℕ, sym, arith, rules}
+use Rattle.std.proofs.Common.{ℕ, sym, arith}
 use lib.ListN.{length-replicate}
 use Rattle.replay.proofs.main.Goals as goal
 

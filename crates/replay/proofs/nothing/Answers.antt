@@ -1,4 +1,4 @@
-use Rattle.std.proofs.Common.{ℕ, ap₂, rules}
+use Rattle.std.proofs.Common.{ℕ, ap₂}
 use Rattle.tree.specs.declared.Tree.{Tree}
 use Rattle.ledger.specs.Ledgers.{empty_ledger}
 use Rattle.replay.proofs.nothing.Goals as goal

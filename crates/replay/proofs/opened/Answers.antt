@@ -1,4 +1,4 @@
-use Rattle.std.proofs.Common.{ℕ, List, ap, ◌∙◌, rules}
+use Rattle.std.proofs.Common.{ℕ, List, ap, ◌∙◌}
 use Rattle.refusals.specs.Rules.{first}
 use Rattle.ledger.specs.Ledgers.{open_refusals, opened_of, roll_after_open}
 use Rattle.replay.proofs.opened.Goals as goal

@@ -1,4 +1,4 @@
-use Rattle.std.proofs.Common.{◌≡◌, sym, ap, arith, length-take-le, rules}
+use Rattle.std.proofs.Common.{◌≡◌, sym, ap, arith, length-take-le}
 use Rattle.text.proofs.PenLaws.{start}
 use Rattle.replay.specs.declared.Next.{Next}
 use Rattle.replay.specs.Tape.{next_turn, entry_length}

@@ -1,4 +1,4 @@
-use Rattle.std.proofs.Common.{arith, rules}
+use Rattle.std.proofs.Common.{arith}
 use Rattle.text.proofs.PenLaws.{then, text_as}
 use Rattle.replay.proofs.LookLaws.{rows_as, shown_there, shown_most}
 use Rattle.replay.proofs.put_all_rows.Goals as goal

@@ -1,4 +1,4 @@
-use Rattle.std.proofs.Common.{arith, rules}
+use Rattle.std.proofs.Common.{arith}
 use Rattle.text.proofs.PenLaws.{then, text_as}
 use Rattle.replay.proofs.LookLaws.{desk_as}
 use Rattle.replay.proofs.put_desk.Goals as goal

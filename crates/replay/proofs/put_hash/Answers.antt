@@ -1,4 +1,4 @@
-use Rattle.std.proofs.Common.{ℕ, List, ◌++◌, ap, arith, rules}
+use Rattle.std.proofs.Common.{ℕ, List, ◌++◌, ap, arith}
 use Rattle.text.specs.Hex.{hex}
 use Rattle.text.proofs.PenLaws.{text_as}
 use Rattle.replay.proofs.put_hash.Goals as goal

@@ -1,4 +1,4 @@
-use Rattle.std.proofs.Common.{arith, rules}
+use Rattle.std.proofs.Common.{arith}
 use Rattle.text.proofs.PenLaws.{then, text_as}
 use Rattle.replay.proofs.LookLaws.{memory_as}
 use Rattle.replay.proofs.put_memory.Goals as goal

@@ -1,4 +1,4 @@
-use Rattle.std.proofs.Common.{refl, arith, rules}
+use Rattle.std.proofs.Common.{refl, arith}
 use Rattle.text.proofs.PenLaws.{then, text_as}
 use Rattle.replay.proofs.put_named.Goals as goal
 

@@ -1,4 +1,4 @@
-use Rattle.std.proofs.Common.{refl, arith, rules}
+use Rattle.std.proofs.Common.{refl, arith}
 use Rattle.text.proofs.PenLaws.{then, text_as}
 use Rattle.replay.specs.Looks.{row_line}
 use Rattle.replay.proofs.put_row.Goals as goal

@@ -1,11 +1,9 @@
 -- After i turns the lines of the first i rows are on the page; each row is the 32 bytes at its place, and after n turns these are all rows.
-use Rattle.std.proofs.Common.{◌≡◌, ℕ, ◌+◌, ◌-◌, ◌*◌, ◌<◌, ◌≤◌, [], length, get_or, take, sym, refl, ap, ◌∙◌, arith, take_all, rules}
+use Rattle.std.proofs.Common.{◌≡◌, ◌+◌, ◌-◌, ◌*◌, ◌≤◌, length, take}
 use mathlib.Core.List.{flat_map}
 use Rattle.octets.specs.Rows.{rows_of}
-use Rattle.octets.proofs.RowLaws.{rows_length, rows_field}
 use Rattle.text.specs.Pen.{pen, Wrote}
-use Rattle.text.proofs.PenLaws.{start, one_more, text_as}
-use Rattle.replay.specs.Looks.{row_line, row_lines}
+use Rattle.replay.specs.Looks.{row_line}
 use Rattle.replay.proofs.put_rows.Given as goal
 
 abbrev pub invariant-loop-i : goal.invariant-loop-i

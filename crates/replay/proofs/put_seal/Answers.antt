@@ -1,4 +1,4 @@
-use Rattle.std.proofs.Common.{arith, rules}
+use Rattle.std.proofs.Common.{arith}
 use Rattle.text.proofs.PenLaws.{text_as}
 use Rattle.replay.proofs.LookLaws.{seal_is, seal_not}
 use Rattle.replay.proofs.put_seal.Goals as goal

@@ -1,5 +1,5 @@
 -- One return for each outcome of a seal, in the order of the match: the one that passes has its pull in the line, and the three that refuse have their number alone.
-use Rattle.std.proofs.Common.{refl, arith, rules}
+use Rattle.std.proofs.Common.{refl, arith}
 use Rattle.text.proofs.PenLaws.{text_as}
 use Rattle.seal.specs.declared.Sealed.TheVariants.{BadLimit, NotFinite, Outside}
 use Rattle.replay.specs.Looks.{sealed_text}

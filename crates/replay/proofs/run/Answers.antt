@@ -1,5 +1,5 @@
 -- One return for each kind of entry, in the order of the tests; for each, a law says that the definition takes that branch, and the callee's promise is what the branch asks.
-use Rattle.std.proofs.Common.{refl, arith, rules}
+use Rattle.std.proofs.Common.{refl, arith}
 use Rattle.replay.proofs.KindLaws.{entry_open, entry_case, entry_desk, entry_seal, entry_no_seal, entry_name, entry_bare, entry_lay}
 use Rattle.replay.proofs.TurnLaws.{plays_as, plays, plays_broken}
 use Rattle.replay.proofs.run.Goals as goal

@@ -1,6 +1,5 @@
 use Rattle.replay.proofs.KindLaws.{bare_fresh, bare_block, bare_other}
 use Rattle.replay.proofs.TurnLaws.{plays_as}
-use Rattle.std.proofs.Common.{rules}
 use Rattle.replay.proofs.run_bare.Goals as goal
 
 pub returns-then-kind-eq70 : goal.returns-then-kind-eq70

@@ -1,4 +1,4 @@
-use Rattle.std.proofs.Common.{[], arith, rules}
+use Rattle.std.proofs.Common.{[], arith}
 use Rattle.replay.specs.Tape.{case_turn, case_on}
 use Rattle.replay.proofs.TurnLaws.{judged_plays}
 use Rattle.replay.proofs.run_case.Goals as goal

@@ -1,4 +1,4 @@
-use Rattle.std.proofs.Common.{ℕ, ◌-◌, List, length, drop, sym, ◌∙◌, ap₂, le_of_eq, length-drop, length-take-le, take_all, rules}
+use Rattle.std.proofs.Common.{ℕ, ◌-◌, List, length, drop, sym, ◌∙◌, ap₂, le_of_eq, length-drop, length-take-le, take_all}
 use lib.ListN.{length-replicate}
 use Rattle.replay.specs.Tape.{desk_on}
 use Rattle.replay.proofs.TurnLaws.{plays_as, plays_broken, taken_of, desk_short, desk_wide, desk_drafts}

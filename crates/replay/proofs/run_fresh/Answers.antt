@@ -1,4 +1,4 @@
-use Rattle.std.proofs.Common.{sym, length-take-le, rules}
+use Rattle.std.proofs.Common.{sym, length-take-le}
 use Rattle.replay.proofs.TurnLaws.{fresh_plays}
 use Rattle.replay.proofs.run_fresh.Goals as goal
 

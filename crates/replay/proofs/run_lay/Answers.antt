@@ -1,7 +1,6 @@
 -- One return for each kind of entry, in the order of the tests, as for those that judge.
 use Rattle.replay.proofs.KindLaws.{lay_given, lay_zeros, lay_table, lay_roll, lay_other}
 use Rattle.replay.proofs.TurnLaws.{plays_as, plays_broken}
-use Rattle.std.proofs.Common.{rules}
 use Rattle.replay.proofs.run_lay.Goals as goal
 
 pub returns-then-kind-eq80 : goal.returns-then-kind-eq80

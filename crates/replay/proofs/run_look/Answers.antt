@@ -1,5 +1,5 @@
 -- One return for each of the three things to look at and one for any other letter; the lent parts of table and roll lie within them, so that they can be read.
-use Rattle.std.proofs.Common.{sym, refl, arith, length-take-le, rules}
+use Rattle.std.proofs.Common.{sym, refl, arith, length-take-le}
 use Rattle.replay.proofs.KindLaws.{look_ledger, look_rows, look_memory, look_other}
 use Rattle.replay.proofs.TurnLaws.{plays_as, plays, plays_broken}
 use Rattle.replay.proofs.run_look.Goals as goal

@@ -1,4 +1,4 @@
-use Rattle.std.proofs.Common.{refl, arith, rules}
+use Rattle.std.proofs.Common.{refl, arith}
 use Rattle.replay.proofs.KindLaws.{name_short, name_long}
 use Rattle.replay.proofs.TurnLaws.{plays_as, plays, plays_broken}
 use Rattle.replay.proofs.run_name.Goals as goal

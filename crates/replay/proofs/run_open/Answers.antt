@@ -1,5 +1,5 @@
 -- Where the two lengths of the entry can be lent, the lent parts lie within table and roll, and the opening's promise on those parts is carried to the whole buffers; where not, the tape is broken.
-use Rattle.std.proofs.Common.{sym, length-take-le, rules}
+use Rattle.std.proofs.Common.{sym, length-take-le}
 use Rattle.replay.proofs.TurnLaws.{plays_as, plays_broken, lent_table, lent_roll, lends_by, open_plays}
 use Rattle.replay.specs.Tape.{open_turn}
 use Rattle.replay.proofs.run_open.Goals as goal

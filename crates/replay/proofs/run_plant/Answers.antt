@@ -1,5 +1,5 @@
 -- Where the two lengths of the entry can be lent, the two fills leave the planted bytes in the lent parts and the rest as it was, and the ledger is read from the entry; where not, the tape is broken.
-use Rattle.std.proofs.Common.{◌≡◌, ℕ, Bool, eqb, sym, ◌∙◌, arith, length-take-le, rules}
+use Rattle.std.proofs.Common.{◌≡◌, ℕ, Bool, eqb, sym, ◌∙◌, length-take-le}
 use lib.Seq.{length_front}
 use Rattle.replay.proofs.TurnLaws.{plays_as, plays_broken, lent_table, lent_roll, lends_by, plant_plays}
 use Rattle.replay.specs.Tape.{can_lend, plant_length, plant_turn}

@@ -1,5 +1,5 @@
 -- Where the rows can be laid, they lie within the lent part, and what was laid there is carried to the whole buffer; where not, the tape is broken.
-use Rattle.std.proofs.Common.{sym, length-take-le, rules}
+use Rattle.std.proofs.Common.{sym, length-take-le}
 use Rattle.replay.proofs.TurnLaws.{plays_as, plays_broken, can_lay_whole, roll_laid_plays, roll_broken}
 use Rattle.replay.proofs.run_roll.Goals as goal
 

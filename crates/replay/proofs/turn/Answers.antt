@@ -1,6 +1,5 @@
 use Rattle.text.proofs.PenLaws.{rendered}
 use Rattle.replay.proofs.TurnLaws.{within_as, nowhere}
-use Rattle.std.proofs.Common.{rules}
 use Rattle.replay.proofs.turn.Goals as goal
 
 pub slice_bounds-print-end : goal.slice_bounds-print-end

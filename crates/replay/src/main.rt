@@ -634,8 +634,8 @@ fn turn(
     nothing(false)
 }
 
-// A proved loop has to end, and nothing says that a tape does: the turns are counted up to a number that no run
-// reaches.
+// A proved loop has to end, and nothing says that a tape does: the turns count down from a number
+// that no run uses up.
 fn play(
     input: &mut impl io::Read,
     rt: &(impl Print + Eprint),
@@ -647,11 +647,10 @@ fn play(
     requires { longest ≤ length out.old }
 {
     let mut state = nothing(true);
-    for _ in 0..u64::MAX {
-        if !state.on {
-            break;
-        }
+    let mut turns = u64::MAX;
+    while turns > 0 && state.on {
         state = turn(input, rt, buffer, table, roll, state, out);
+        turns -= 1;
     }
 }
 

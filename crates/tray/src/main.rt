@@ -120,13 +120,14 @@ fn turn(input: &mut impl Read, rt: &(impl Print + Eprint), buffer: &mut [u8]) ->
     lines::print(rt, &out[..end]) && goes_on(next)
 }
 
-// A proved loop has to end, and nothing says that a tray does: the turns are counted up to a number that no run
-// reaches.
+// A proved loop has to end, and nothing says that a tray does: the turns count down from a number that
+// no run uses up.
 fn play(input: &mut impl Read, rt: &(impl Print + Eprint), buffer: &mut [u8]) {
-    for _ in 0..u64::MAX {
-        if !turn(input, rt, buffer) {
-            break;
-        }
+    let mut on = true;
+    let mut turns = u64::MAX;
+    while turns > 0 && on {
+        on = turn(input, rt, buffer);
+        turns -= 1;
     }
 }
 

@@ -37,7 +37,7 @@ class Item:
 def crates_of(root):
     """The crates that have code, in the order of crates.txt."""
     with open(os.path.join(root, "crates.txt"), encoding="utf-8") as f:
-        names = [line.split(":")[0] for line in f if ":" in line.split("#")[0]]
+        names = [re.split(r"[ :]", line)[0] for line in f if ":" in line.split("#")[0]]
     return [n for n in names if os.path.isdir(os.path.join(root, "crates", n, "src"))]
 
 
@@ -72,7 +72,7 @@ def without_clauses(text):
 def without_proofs(text):
     """The lines of a file but for ghost lines, attributes, contracts and comments; a contract leaves `requires` or nothing."""
     # A wrong version may have a whole function on one line, or a type with one function of its own.
-    text = re.sub(r"(ghost use [^;]*;) +(?=\S)", r"\1\n", text)
+    text = re.sub(r"(ghost use [^;]*;|^#\[[^]]*\]) +(?=\S)", r"\1\n", text, flags=re.M)
     text = re.sub(r"^struct .*$", lambda m: without_clauses(m[0]).replace("\nrequires", ""), text, flags=re.M)
     text = ONE_LINE.sub(r"\1\2\n{\n\3\n}", without_clauses(text))
     return [line for line in text.split("\n") if not re.match(r"\s*(ghost |//|#!?\[)", line)]

@@ -140,10 +140,18 @@ def clause_name(fact):
     return "value" if not told else f"{told[1]}_after" if told[2] == "new" else {"0": "first_value", "1": "second_value"}.get(told[2], f"{told[2]}_value")
 
 
+def derives(text):
+    """A type that is given out, or taken, says that it can be copied."""
+    m = re.match(r"struct (\w+)\(", text)
+    return "#[derive(Clone, Copy)] " + text if m and re.search(rf"-> {m[1]} |\(self\)", text) else text
+
+
 def turned(text, here=""):
     """Text of a file, which is `here` as it is now."""
     is_proof = bool(re.search(r"⌜|ghost use|Rattle·|∷|≡|→| \.[a-z]|\b(?:ltb|cond) ", text))
-    text = names(paths(clauses(text)), here)
+    text = names(paths(derives(clauses(text))), here)
+    # What C calls stands in crates of its own now, which only hand on.
+    text = text if 'extern "C" ' in here else text.replace('extern "C" ', "")
     return fields(text) if is_proof and not re.search(r"\bfn |^//", text) else text
 
 
@@ -157,17 +165,17 @@ def imports(text):
 
 
 def turned_import(old, new, here):
-    """The pair for an import that gains names: its first word as it stands, and with them before it. Code has imports of
-    their own for them, on the same line."""
+    """The pairs for an import that gains names: the first word of today's, and with them before it. Imports of other
+    files stand on the same line."""
     before, after = imports(old), imports(new)
     (home,) = before
-    first = re.search(rf"^(?:ghost )?use {re.escape(home)}\.\{{([^,}}]+)", here, re.M)
-    if not first:
-        raise ValueError(f"there is no import of {home}")
     more = {path: [n for n in listed if n not in before.get(path, [])] for path, listed in after.items()}
-    if old.startswith("ghost "):
-        return first[0], "".join(f"ghost use {path}.{{{', '.join(listed)}}}; " for path, listed in more.items() if listed) + first[0]
-    return first[0], first[0].replace(first[1], ", ".join([*more.pop(home), first[1]]))
+    others = "".join(f"ghost use {path}.{{{', '.join(listed)}}}; " for path, listed in more.items() if path not in (home, PRELUDE))
+    for path in dict.fromkeys((home, PRELUDE)):
+        gained, added = more.pop(path, []), others if path == home else ""
+        if gained or added:
+            first = re.search(rf"^(?:ghost )?use {re.escape(path)}\.\{{([^,}}]+)", here, re.M)
+            yield first[0], added + first[0].replace("{" + first[1], "{" + ", ".join([*gained, first[1]]))
 
 
 # The edits.
@@ -232,7 +240,7 @@ def turned_edit(path):
         if old in by_hand:
             pairs += [(file, after, *pair) for pair in by_hand[old]]
         elif re.match(r"(ghost )?use .*\{.*\}", old) and re.match(r"(ghost )?use ", new):
-            pairs.append((file, after, *turned_import(old, new, here)))
+            pairs += [(file, after, *pair) for pair in turned_import(old, new, here)]
         else:
             pairs.append((file, after and turned(after, here), turned(old, here), turned(new, here)))
     return text_of(why, pairs, path.startswith("crates/"))
@@ -258,13 +266,13 @@ def meaning(before, after, turn):
         found, name, owner = {}, "", ""
         for line in text.split("\n"):
             impl = re.match(r"impl (\w+) \{$", line)
-            head = re.match(r"\s*(?:pub )?(?:extern \"C\" )?(?:fn|const|struct|enum) (\w+)|(?:(?:abbrev|unfoldable|pub|record|data) )*([\w']+) :", line)
+            head = re.match(r"\s*(?:#\[[^]]*\] )?(?:pub )?(?:extern \"C\" )?(?:fn|const|struct|enum) (\w+)|(?:(?:abbrev|unfoldable|pub|record|data) )*([\w']+) :", line)
             owner = impl[1] + "::" if impl else "" if line == "}" else owner
             if head:
                 name = owner + (head[1] or head[2])
             if is_import(line):
                 found.setdefault("use", []).append(line)
-            elif not line.strip().startswith(("//", "--", "#[")) or "fn " in line:
+            elif not line.strip().startswith(("//", "--")) and not re.fullmatch(r"\s*#!?\[.*\]", line):
                 found.setdefault(turn(name), []).append(line)
         return {n: in_one_line(" ".join(turn(x) for x in lines)) for n, lines in found.items()}
 

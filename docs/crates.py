@@ -23,7 +23,7 @@ def floors_of(text):
     floors, knows = [], {}
     for line in text.split("\n"):
         heading = re.fullmatch(r"# (.*[^.:])", line)
-        crate = re.fullmatch(r"(\w+):(.*)", line)
+        crate = re.fullmatch(r"(\w+)(?: staticlib)?:(.*)", line)
         if heading:
             floors.append((heading[1], []))
         elif crate:

@@ -73,7 +73,9 @@ def main():
     word = re.compile(rf"(?<!{EDGE})(" + "|".join(re.escape(n) for n in sorted(new, key=len, reverse=True)) + rf")(?!{EDGE})")
     for path in files(".antt", ".rt"):
         before = read(path)
-        after = word.sub(lambda m: new[m.group(1)], before)
+        # what stands between quotes is printed or read, and stays
+        parts = re.split(r'("(?:[^"\\\n]|\\.)*")', before)
+        after = "".join(p if p.startswith('"') else word.sub(lambda m: new[m.group(1)], p) for p in parts)
         if after != before:
             with open(path, "w", encoding="utf-8") as f:
                 f.write(after)

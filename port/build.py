@@ -88,7 +88,7 @@ class Port:
         put(
             "src/modules.rs",
             "".join(f"pub mod {c};\n" for c in self.crates)
-            + "pub const PROGRAMS: &[(&str, fn())] = &[\n" + "".join(f'("{p}", {p}::main),\n' for p in self.programs) + "];\n"
+            + "pub const PROGRAMS: &[(&str, fn())] = &[\n" + "".join(f'("{p}", || {p}::main(HostRuntime)),\n' for p in self.programs) + "];\n"
             + "pub const MODULES: &[(&str, &[u64], &[Call])] = &[\n" + "\n".join(modules) + "\n];\n",
         )
         for name in os.listdir(os.path.join(HERE, "player")):

@@ -165,22 +165,34 @@ def drawn_types(text):
 
 def call_of(item):
     """A call of a function on drawn arguments, which tells what was given, what came back and what is left."""
-    inside = item.head[item.head.index("(") + 1 :].split(") ->")[0].rsplit(")", 1)[0]
     lets, given = "", []
-    for number, parameter in enumerate(split_list(inside)):
+    for number, parameter in enumerate(split_list(parameters_of(item.head))):
         kind = parameter.partition(": ")[2] or item.name.split("::")[0]
         lent = re.match(r"&(?:'a )?(mut )?", kind)
         kind = re.sub(r"^\[([^;]*)\]$", r"Vec<\1>", kind[lent.end() :]) if lent else kind
-        lets += f"let mut a{number}: {kind} = d.draw(); "
+        lets += f"let mut a{number}: {HANDED.get(kind, kind)} = d.draw(); "
         given.append(f"&{lent[1] or ''}a{number}" if lent else f"a{number}")
     told = f"crate::told(&({''.join(f'&a{n}, ' for n in range(len(given)))}))"
     result = f"crate::told(&{item.name}({', '.join(given)}))"
     return f'("{item.name}", {str(item.public).lower()}, |d| {{ {lets}let lent = {told}; let r = {result}; [lent, r, {told}] }}),'
 
 
+def parameters_of(head):
+    """What stands between the first brackets of a function's head."""
+    start = head.index("(") + 1
+    depth, end = 1, start
+    while depth:
+        depth += {"(": 1, ")": -1}.get(head[end], 0)
+        end += 1
+    return head[start : end - 1]
+
+
+# What stands for the handles that a program is given, and for what it reads from.
+HANDED = {"(impl Print + Eprint)": "crate::HostRuntime", "R": "crate::io::Stdin"}
+
 # A program that reads its input is called on a drawn one; the functions within are left to its runs.
 MAIN = """("main", true, |d| { let a0: Vec<u8> = d.draw(); let lent = crate::told(&a0);
-let r = crate::told(&crate::io::play(main, &a0)); [lent, r, crate::told(&())] }),"""
+let r = crate::told(&crate::io::play(|| main(crate::HostRuntime), &a0)); [lent, r, crate::told(&())] }),"""
 
 
 def plain(crate, modules, text):
@@ -188,10 +200,11 @@ def plain(crate, modules, text):
     text = re.sub(r"\bcrate::", f"crate::{crate}::", text)
     for module in modules:
         text = re.sub(rf"^use {module or '-'}::", f"use crate::{crate}::{module}::", text, flags=re.M)
-    text = re.sub(r"^use (?!crate)(\w+)::", r"use crate::\1::", text, flags=re.M)
+    text = re.sub(r"^use (?!crate|std)(\w+)::", r"use crate::\1::", text, flags=re.M)
     text = text.replace("std::num::wrapping_add_u64(", "u64::wrapping_add(")
     text = re.sub(r"std::num::nearest_u64_to_f64\((.*)\);", r"(\1) as f64;", text)
     text = re.sub(r"^(\s*)while (.*) \{$", r"\1while crate::turn() && (\2) {", text, flags=re.M)
+    text = re.sub(r"^(\s*for _ in 0\.\.u64::MAX \{)$", r"\1 crate::turn();", text, flags=re.M)
     text = text.replace('extern "C" ', "")
     text = re.sub(r"^(\s*)(?:pub )?(struct|enum|fn|const|mod) ", r"\1pub \2 ", text, flags=re.M)
     return re.sub(r"^pub (struct|enum) ", r"#[derive(Clone, Copy, Debug)]\npub \1 ", text, flags=re.M)
@@ -221,6 +234,6 @@ def rust_of(crate, modules, items, variants, added):
     put(drawn_types("\n".join(i.head for i in items if not i.name)))
     calls = [call_of(i) for i in items if i.is_function and not i.asks and (crate, i.name) not in ENDLESS]
     if any(i.name == "main" for i in items):
-        calls = [MAIN] if any("read_full" in i.body for i in items) else []
+        calls = [MAIN] if any(".stdin()" in i.body for i in items) else []
     put("pub const CALLS: &[crate::Call] = &[\n" + "\n".join(calls) + "\n];")
     return "\n".join(lines) + "\n", owners

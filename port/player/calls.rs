@@ -9,7 +9,7 @@ use second::seal::{judge_seal, Calibration, Seal};
 use second::sha256::sha256;
 use second::tape::{keep_body, read_plant};
 
-use port::{host, hostdesk};
+use port::{host_c, hostdesk_c};
 
 /// The calls.
 pub struct Calls {
@@ -27,16 +27,16 @@ pub struct Calls {
 
 /// The port's own.
 pub const PORT: Calls = Calls {
-    open: host::snaldrek_proved_open,
-    judge: host::snaldrek_proved_judge,
-    close: host::snaldrek_proved_close,
-    write_case: hostdesk::snaldrek_proved_write_case,
-    root: host::snaldrek_proved_root,
-    hash: host::snaldrek_proved_hash,
-    seal: host::snaldrek_proved_seal,
-    bag: host::snaldrek_proved_bag,
-    tally: host::snaldrek_proved_tally,
-    day: host::snaldrek_proved_day,
+    open: host_c::snaldrek_proved_open,
+    judge: host_c::snaldrek_proved_judge,
+    close: host_c::snaldrek_proved_close,
+    write_case: hostdesk_c::snaldrek_proved_write_case,
+    root: host_c::snaldrek_proved_root,
+    hash: host_c::snaldrek_proved_hash,
+    seal: host_c::snaldrek_proved_seal,
+    bag: host_c::snaldrek_proved_bag,
+    tally: host_c::snaldrek_proved_tally,
+    day: host_c::snaldrek_proved_day,
 };
 
 /// The same by the second judge.

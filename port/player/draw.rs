@@ -169,3 +169,16 @@ impl<T: Draw> Draw for Vec<T> {
         list
     }
 }
+
+impl Draw for crate::HostRuntime {
+    fn draw(_: &mut Dice) -> crate::HostRuntime {
+        crate::HostRuntime
+    }
+}
+
+impl Draw for crate::io::Stdin {
+    fn draw(d: &mut Dice) -> crate::io::Stdin {
+        crate::io::hand(d.draw());
+        crate::io::Stdin
+    }
+}

@@ -75,13 +75,37 @@ pub fn told(value: &impl fmt::Debug) -> Told {
     told
 }
 
-pub mod libc {
-    pub const STDIN_FILENO: i32 = 0;
-    pub const STDOUT_FILENO: i32 = 1;
-    pub const STDERR_FILENO: i32 = 2;
+/// What a program is handed: standard input and output in memory. What it tells on standard error is dropped.
+#[derive(Clone, Copy, Debug)]
+pub struct HostRuntime;
+
+pub trait Print {
+    fn write_all(&self, bytes: &[u8]) -> std::io::Result<()>;
 }
 
-/// Standard input and output in memory; what goes elsewhere is dropped.
+pub trait Eprint {
+    fn eprintln(&self, text: &str) -> std::io::Result<()>;
+}
+
+impl HostRuntime {
+    pub fn stdin(&self) -> io::Stdin {
+        io::Stdin
+    }
+}
+
+impl Print for HostRuntime {
+    fn write_all(&self, bytes: &[u8]) -> std::io::Result<()> {
+        io::print(bytes);
+        Ok(())
+    }
+}
+
+impl Eprint for HostRuntime {
+    fn eprintln(&self, _: &str) -> std::io::Result<()> {
+        Ok(())
+    }
+}
+
 pub mod io {
     use super::*;
 
@@ -93,39 +117,40 @@ pub mod io {
 
     /// Runs something on an input, and gives its result and what it printed.
     pub fn play<R>(program: impl FnOnce() -> R, input: &[u8]) -> (R, Vec<u8>) {
-        INPUT.replace(input.to_vec());
-        READ.set(0);
+        hand(input.to_vec());
         TURNS.set(0);
         OUTPUT.take();
         (program(), OUTPUT.take())
     }
 
+    /// Makes some bytes the input.
+    pub fn hand(input: Vec<u8>) {
+        INPUT.replace(input);
+        READ.set(0);
+    }
+
+    pub fn print(bytes: &[u8]) {
+        OUTPUT.with_borrow_mut(|output| output.extend_from_slice(bytes));
+    }
+
+    pub struct Stdin;
+
     /// The turns are counted anew from each byte of the input on.
-    pub fn read_full(_: i32, buffer: &mut [u8]) -> usize {
-        INPUT.with_borrow(|input| {
-            let rest = &input[READ.get()..];
-            let n = buffer.len().min(rest.len());
-            buffer[..n].copy_from_slice(&rest[..n]);
+    impl std::io::Read for Stdin {
+        fn read(&mut self, buffer: &mut [u8]) -> std::io::Result<usize> {
+            let n = INPUT.with_borrow(|input| (&input[READ.get()..]).read(buffer))?;
             READ.set(READ.get() + n);
             if n > 0 {
                 TURNS.set(0);
             }
-            n
-        })
-    }
-
-    pub fn write_all(to: i32, bytes: &[u8]) -> bool {
-        if to == libc::STDOUT_FILENO {
-            OUTPUT.with_borrow_mut(|output| output.extend_from_slice(bytes));
+            Ok(n)
         }
-        true
     }
 
-    pub fn print_decimal(to: i32, n: u64) -> bool {
-        write_all(to, format!("{n}").as_bytes())
-    }
-
-    pub fn print_hex(to: i32, n: u64, width: usize) -> bool {
-        write_all(to, format!("{n:0width$x}").as_bytes())
+    /// The bytes that are still to be read.
+    impl fmt::Debug for Stdin {
+        fn fmt(&self, f: &mut fmt::Formatter) -> fmt::Result {
+            INPUT.with_borrow(|input| write!(f, "{:?}", &input[READ.get()..]))
+        }
     }
 }

@@ -36,31 +36,33 @@ proved_library() {
 octets:
 sha256: octets
 blake2b: octets
-hashes: octets sha256 blake2b
+hashes staticlib: octets sha256 blake2b
 TEXT
     cat >"$out/repo/crates/hashes/src/lib.rt" <<'TEXT'
 // The hashes as C functions, for the bench to link.
-#[no_mangle]
+#![tactic(auto)]
+
+#[unsafe(no_mangle)]
 pub extern "C" fn hashes_compress(b: &[u8; 64], out: &mut [u8; 32]) {
     *out = sha256::compress(b);
 }
 
-#[no_mangle]
+#[unsafe(no_mangle)]
 pub extern "C" fn hashes_compress_halves(l: &[u8; 32], r: &[u8; 32], out: &mut [u8; 32]) {
     *out = sha256::compress_halves(l, r);
 }
 
-#[no_mangle]
+#[unsafe(no_mangle)]
 pub extern "C" fn hashes_hash(m: &[u8], out: &mut [u8; 32]) {
     *out = sha256::hash(m);
 }
 
-#[no_mangle]
+#[unsafe(no_mangle)]
 pub extern "C" fn hashes_hash32(m: &[u8], personal: &[u8; 16], out: &mut [u8; 32]) {
     *out = blake2b::hash32(m, personal);
 }
 TEXT
-    (cd "$out/repo" && rt staticlib hashes) >"$out/staticlib.log" 2>&1 || {
+    (cd "$out/repo/crates/hashes" && rt lib) >"$out/staticlib.log" 2>&1 || {
         tail -n 20 "$out/staticlib.log" >&2
         fail "the proved library was not built"
     }
@@ -71,7 +73,7 @@ program() {
     "$rustc" --edition 2021 --target x86_64-unknown-linux-gnu -C linker="$linker" \
         -C opt-level=3 -C codegen-units=1 -C panic=abort -C target-cpu=x86-64 \
         --cfg "sha=\"$1\"" --cfg "blake=\"$2\"" \
-        -L "$out/repo/target/staticlib" -l static=hashes -o "$out/$1-$2" "$here/hashes.rs"
+        -L "$out/repo/crates/hashes/out" -l static=hashes -o "$out/$1-$2" "$here/hashes.rs"
     "$qemu" "$out/$1-$2" check || fail "the two sides of $1-$2 differ"
 }
 

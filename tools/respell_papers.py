@@ -1,5 +1,5 @@
 #!/usr/bin/env python3
-"""Puts today's spelling of definitions and lemmas (tools/names.txt: the older name, today's) where the papers name
+"""Puts today's spelling of definitions and lemmas (tools/names.txt: the older name, today's, and the crates that have it) where the papers name
 them, between backticks. Runs of tapes, as `replay:some-run case 8 1`, keep their names.
 
 usage: tools/respell_papers.py FILE.."""
@@ -7,7 +7,7 @@ import re
 import sys
 from pathlib import Path
 
-NAMES = dict(line.split() for line in (Path(__file__).parent / "names.txt").read_text(encoding="utf-8").splitlines())
+NAMES = dict(line.split()[:2] for line in (Path(__file__).parent / "names.txt").read_text(encoding="utf-8").splitlines())
 WORD = re.compile(r"(?<![\w'\-/.:·])([a-z][\w'′-]*)(?![\w'\-])")
 
 for path in sys.argv[1:]:

@@ -74,7 +74,7 @@ pub fn counted(t: Tally, pass: bool) -> Tallied
     }
 }
 
-// The record changed in place. Thin, since its proof is a walk by hand: `counted` does the work.
+// The record changed in place. Thin: `counted` does the work.
 pub fn count(t: &mut Tally, pass: bool) -> bool
     ensures { (result ≡ (tally_of t.old pass).ok) × (t.new ≡ (tally_of t.old pass).tally) }
 {

@@ -9,12 +9,13 @@ use second::seal::{judge_seal, Calibration, Seal};
 use second::sha256::sha256;
 use second::tape::{keep_body, read_plant};
 
-use port::{host_c, hostdesk_c};
+use port::{host_c, hostdesk_c, hostslices_c};
 
 /// The calls.
 pub struct Calls {
     pub open: fn(&mut [u8], &mut [u8]) -> u32,
     pub judge: fn(&[u8], &mut [u8], &mut [u8], &[u8]) -> u32,
+    pub steps: fn(&[u8], &mut [u8], &mut [u8], &mut [u8], &[u8]) -> Vec<u32>,
     pub close: fn(&mut [u8], &[u8], &mut [u8]) -> u32,
     pub write_case: fn(&[u8], &mut [u8]) -> u32,
     pub root: fn(&[u8], &mut [u8]) -> u32,
@@ -29,6 +30,11 @@ pub struct Calls {
 pub const PORT: Calls = Calls {
     open: host_c::snaldrek_proved_open,
     judge: host_c::snaldrek_proved_judge,
+    steps: |case, judgement, ledger, table, roll| {
+        let begun = hostslices_c::snaldrek_proved_begin(case, judgement);
+        let later = (1..STEPS).map(|_| hostslices_c::snaldrek_proved_step(judgement, ledger, table, roll));
+        std::iter::once(begun).chain(later).collect()
+    },
     close: host_c::snaldrek_proved_close,
     write_case: hostdesk_c::snaldrek_proved_write_case,
     root: host_c::snaldrek_proved_root,
@@ -40,9 +46,12 @@ pub const PORT: Calls = Calls {
 };
 
 /// The same by the second judge.
-pub const SECOND: Calls = Calls { open, judge, close, write_case, root, hash, seal, bag, tally, day };
+pub const SECOND: Calls = Calls { open, judge, steps, close, write_case, root, hash, seal, bag, tally, day };
 
 pub const LEDGER_BYTES: usize = 988;
+pub const JUDGEMENT_BYTES: usize = 4280;
+/// How many steps a judgement has.
+const STEPS: u32 = 60;
 
 /// An answer as one number: the refusal's own, 256 times its place and 65,536 times the row that it names.
 fn code(answer: Answer) -> u32 {
@@ -93,6 +102,24 @@ fn judge(case: &[u8], ledger: &mut [u8], table: &mut [u8], roll: &[u8]) -> u32 {
     put_back(&kept, ledger);
     table.copy_from_slice(&kept.table);
     code(answer)
+}
+
+/// A case with nothing wrong in itself, judged in steps: the last one's answer is the judge's, and each before it tells
+/// how many were taken. A file of no case's length is told so each time.
+fn steps(case: &[u8], judgement: &mut [u8], ledger: &mut [u8], table: &mut [u8], roll: &[u8]) -> Vec<u32> {
+    let is_record = judgement.len() == JUDGEMENT_BYTES;
+    let is_case = [4_210, 4_106].contains(&case.len());
+    let answer = |step: u32| match (is_record, is_case) {
+        (false, _) => wrong_length(7),
+        (true, false) => code(Answer::new(1, 0)),
+        (true, true) => code(Answer::new(254, step as u8)),
+    };
+    let later = (2..=STEPS).map(|step| match ledger.len() {
+        LEDGER_BYTES if step == STEPS && is_record && is_case => judge(case, ledger, table, roll),
+        LEDGER_BYTES => answer(step),
+        _ => wrong_length(1),
+    });
+    std::iter::once(answer(1)).chain(later).collect()
 }
 
 fn close(ledger: &mut [u8], table: &[u8], roll: &mut [u8]) -> u32 {

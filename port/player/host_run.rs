@@ -8,7 +8,7 @@ use second::tape::Player;
 
 use port::{choose, variant};
 
-use crate::calls::{Calls, LEDGER_BYTES, SECOND};
+use crate::calls::{Calls, JUDGEMENT_BYTES, LEDGER_BYTES, SECOND};
 
 /// What is played: the entries of a tape, and bags.
 pub struct Script {
@@ -121,6 +121,7 @@ impl Run<'_> {
         self.layouts();
         let case = script.good_case();
         self.lengths(case);
+        self.steps(case);
         self.drafts(case);
         self.limits(case);
         self.rows(case);
@@ -258,6 +259,30 @@ impl Run<'_> {
         }
         for length in 0..case.len() {
             self.judge(&case[..length], &mut sound.clone());
+        }
+    }
+
+    /// A case in steps: on a fresh ledger, and where its nullifier stands in the second row; cut short; on records and
+    /// ledgers of near lengths.
+    fn steps(&mut self, case: &[u8]) {
+        let fresh = Memory::opened(self.calls, 64, 64);
+        let spent = Memory::planted(&[[0; 32], case[48..80].try_into().unwrap()], 6, 1, 1);
+        for (case, record, ledger, memory) in [
+            (case, JUDGEMENT_BYTES, LEDGER_BYTES, &fresh),
+            (case, JUDGEMENT_BYTES, LEDGER_BYTES, &spent),
+            (&case[1..], JUDGEMENT_BYTES, LEDGER_BYTES, &fresh),
+            (case, JUDGEMENT_BYTES - 1, LEDGER_BYTES, &fresh),
+            (case, JUDGEMENT_BYTES + 1, LEDGER_BYTES, &fresh),
+            (case, JUDGEMENT_BYTES, LEDGER_BYTES - 1, &fresh),
+            (case, JUDGEMENT_BYTES, LEDGER_BYTES + 1, &fresh),
+            (case, 0, 0, &fresh),
+        ] {
+            let mut m = memory.clone();
+            m.ledger.resize(ledger, 7);
+            let mut judgement = vec![7; record];
+            for answer in (self.calls.steps)(case, &mut judgement, &mut m.ledger, &mut m.table, &m.roll) {
+                self.tell("step", answer, &[&m.ledger, &m.table, &m.roll]);
+            }
         }
     }
 

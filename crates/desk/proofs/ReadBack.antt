@@ -98,7 +98,7 @@ module _ (i j : ℕ) (at : Placed i) (c : List ℕ) (whole : has_length c ≡ tr
       put_32 (nullifier i) j (nullifier_from key (old_rho_of i c)) a (whole_as a c (put_length (of_old i 1) (address_from key) c) whole) (nullifier_long key (old_rho_of i c)) at.nullifier_32
       ∙ ap (cond (eqb j (nullifier i)) (nullifier_from key (old_rho_of i c))) (put_32 (of_old i 1) j (address_from key) c whole (address_long key) at.address_32)
 
-  -- and after what is over h_sig: tag i, and new note i
+  -- and after what is over hSig: tag i, and new note i
   module _ (h : List ℕ) where
     abbrev rho : List ℕ
     rho = rho_from i (phi_of c) h

@@ -17,7 +17,7 @@ with_old i c = put_part (nullifier i) (nullifier_from (old_key_of i c) (old_rho_
 unfoldable pub with_old_notes : List ℕ → List ℕ
 with_old_notes d = with_old 2 (with_old 1 d)
 
--- over h_sig, which both nullifiers go into: tag i, rho of new note i, and with that rho its commitment
+-- over hSig, which both nullifiers go into: tag i, rho of new note i, and with that rho its commitment
 unfoldable pub with_rho : ℕ → List ℕ → List ℕ → List ℕ
 with_rho i rho c = put_part (commitment i) (commitment_from (new_address_of i c) (new_value_of i c) rho (new_trapdoor_of i c)) (put_part (of_new i 2) rho c)
 

@@ -75,7 +75,7 @@ fn put_rho(file: &mut [u8], i: Which, rho: &[u8; 32])
     casefile::put_commitment(file, i, &commitment);
 }
 
-// What is over h_sig: tag i, and new note i.
+// What is over hSig: tag i, and new note i.
 fn work_out_new(file: &mut [u8], i: Which, h: &[u8; 32])
     ensures { file.new ≡ with_new (number_of i) h.now file.old }
 {

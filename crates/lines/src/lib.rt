@@ -6,7 +6,7 @@
 ghost use Rattle.std.specs.Prelude.{◌≡◌, ◌≤◌, length, take};
 ghost use Rattle.std.specs.Io.KnownBytes.{Consumes};
 
-use std::io::{ErrorKind, Read};
+use std::io::Read;
 
 // Writes a whole text to standard output, and answers whether it could be written. The programs end with status 0 all
 // the same, so a failure is told on standard error.
@@ -19,8 +19,8 @@ pub fn print(rt: &(impl Print + Eprint), text: &[u8]) -> bool {
 }
 
 // Reads until the buffer is full, the input ends or a read fails, and returns how many bytes it put at the start of
-// the buffer: those that the input had next, in its order. A read that a signal interrupted is made again. On an
-// empty buffer it makes no call.
+// the buffer: those that the input had next, in its order. A read that a signal interrupted counts as one that failed.
+// On an empty buffer it makes no call.
 pub fn read_full<R: Read>(input: &mut R, buffer: &mut [u8]) -> usize
     ensures in_bounds { result ≤ length buffer.new }
     ensures long { result ≡ length (take result buffer.new) }
@@ -34,11 +34,7 @@ pub fn read_full<R: Read>(input: &mut R, buffer: &mut [u8]) -> usize
         match input.read(&mut buffer[done..]) {
             Ok(0) => break,
             Ok(n) => done += n,
-            Err(e) => {
-                if e.kind() != ErrorKind::Interrupted {
-                    break;
-                }
-            }
+            Err(_) => break,
         }
     }
     done

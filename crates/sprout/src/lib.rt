@@ -1,5 +1,5 @@
 // What is derived from a Sprout note and its keys: address, nullifier, tags, new rho, commitment
-// and h_sig, by document 01's section "Hashes", over the proved hashes.
+// and hSig, by document 01's section "Hashes", over the proved hashes.
 // What a case claims of them is left to `statement`, the tree to `tree`.
 #![tactic(auto)]
 
@@ -67,7 +67,7 @@ fn rho_prefix(i: Which) -> u8
     }
 }
 
-// The tag h that ties key i to h_sig.
+// The tag h that ties key i to hSig.
 pub fn mac(i: Which, key: &[u8; 32], h_sig: &[u8; 32]) -> [u8; 32]
     ensures { result ≡ mac_from (number_of i) key.now h_sig.now }
 {
@@ -102,7 +102,7 @@ pub fn commitment(address: &[u8; 32], value: Amount, rho: &[u8; 32], r: &[u8; 32
     sha256::hash(&m)
 }
 
-// The 128 bytes that h_sig hashes.
+// The 128 bytes that hSig hashes.
 fn bound_bytes(
     seed: &[u8; 32],
     nullifier1: &[u8; 32],

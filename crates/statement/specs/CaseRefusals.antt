@@ -84,7 +84,7 @@ address_wrong c i = differs (old_address_of i c) (address_from (old_key_of i c))
 unfoldable pub no13 : List ℕ → List Rule
 no13 c = for_each (address_wrong c) 13
 
--- 14: tag i is wrong, over h_sig
+-- 14: tag i is wrong, over hSig
 unfoldable pub h_sig_of : List ℕ → List ℕ
 h_sig_of c = h_sig_from (seed_of c) (nullifier_of 1 c) (nullifier_of 2 c) (transaction_key_of c)
 
@@ -94,7 +94,7 @@ tag_wrong h_sig c i = differs (tag_of i c) (mac_from i (old_key_of i c) h_sig)
 unfoldable pub no14 : List ℕ → List Rule
 no14 c = for_each (tag_wrong (h_sig_of c) c) 14
 
--- 15: new rho i is wrong, over h_sig
+-- 15: new rho i is wrong, over hSig
 unfoldable pub rho_wrong : List ℕ → List ℕ → ℕ → Bool
 rho_wrong h_sig c i = differs (new_rho_of i c) (rho_from i (phi_of c) h_sig)
 

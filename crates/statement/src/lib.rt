@@ -219,7 +219,7 @@ fn address_wrong(case: &[u8], i: Which) -> bool
     differ(&claimed, &derived)
 }
 
-// 14 and 15 share h_sig, which is hashed once.
+// 14 and 15 share hSig, which is hashed once.
 pub fn h_sig(case: &[u8]) -> [u8; 32]
     ensures { result ≡ h_sig_of case.now }
 {
@@ -315,7 +315,7 @@ fn pair(case: &[u8], claim: Claim, h: &[u8; 32]) -> Answer
     Answer::accepted()
 }
 
-// 10, which is over no h_sig.
+// 10, which is over no hSig.
 pub fn paths(case: &[u8]) -> Answer
     ensures { result ≡ first (no10 case.now) }
 {

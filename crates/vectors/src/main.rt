@@ -168,7 +168,7 @@ fn blake_edges(rt: &(impl Print + Eprint)) {
     blake(rt, b"blake2b-65 abc", b"abc", 65);
 }
 
-// h_sig: the public node's own test, and all zero bytes.
+// hSig: the public node's own test, and all zero bytes.
 fn h_sig_vectors(rt: &(impl Print + Eprint)) {
     let d = sprout::h_sig(&[0x61u8; 32], &[0x62u8; 32], &[0x63u8; 32], &[0x64u8; 32]);
     digest(rt, b"hSig 61 62 63 64", &d);

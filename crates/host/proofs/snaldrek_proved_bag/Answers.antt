@@ -8,6 +8,7 @@ use Rattle.octets.proofs.Joining.{start, next, done}
 use Rattle.refusals.specs.Rules.{is_accepted}
 use Rattle.ledgerbytes.specs.LedgerBytes.{is_whole, buffer_after_write}
 use Rattle.seal.specs.declared.Calibration.{Calibration}
+use Rattle.bag.specs.declared.Scanned.{Scanned}
 use Rattle.bag.specs.SealAndCases.{scanned_of}
 use Rattle.host.specs.Answers.{is_long}
 use Rattle.host.specs.Bags.{own_answer, scan_of, bag_answer, ledger_after_bag_call, table_after_bag_call, report_after_bag_call}
@@ -80,7 +81,7 @@ returns c =
     let new = done (next c.report_of-bytes.result _ 32 0 (omega arith) (omega arith) c.copy_in.ensures.dst_after (start a.report.now 32 l)) in
     record {
       value = c.code-2.ensures ∙ rw (c.own_answer-own.ensures, x, h, n);
-      ledger_after = c.write.ensures.bytes_after ∙ rw (x, h, n, yes);
+      ledger_after = c.write.ensures.bytes_after ∙ ap (λ (s : Scanned). buffer_after_write s.ledger a.ledger.now) x ∙ rw (h, n, yes);
       table_after = c.scan-scanned.ensures.table_after ∙ rw (c.read-kept.ensures, h, n);
       report_after = new ∙ c.report_of-bytes.ensures ∙ rw (x, h, n, yes);
     }

@@ -2,11 +2,10 @@
 use Rattle.std.proofs.Common.{◌≡◌, ℕ, ◌+◌, ◌-◌, ◌≤◌, List, ◌++◌, rules, arith, length, take, slice_range, sym, ap, ◌∙◌, subst, le_refl, drop_at, length-take-le}
 use Rattle.std.proofs.lemmas.Slice.{take-put_mid_below}
 use Rattle.std.specs.Io.KnownBytes.{Consumes}
-use Rattle.std.proofs.KnownBytes.{Consumes-trans, Consumes-kept}
+use Rattle.std.proofs.KnownBytes.{Consumes-trans}
 use borrow.Rule.Slice.PartMut.{put_mid, post_of}
 use lib.Seq.{take-add, take-append-le}
 use Rattle.lines.proofs.read_full.Goals as goal
-use Rattle.lines.proofs.read_full.Goals.{in-Ok, in-Err+else-ne}
 
 take_split : (a b : ℕ) (old new : List ℕ) → a ≤ b → take a new ≡ take a old → take a old ++ slice_range new a b ≡ take b new
 take_split a b old new h front =
@@ -24,17 +23,9 @@ loop-preserved g c =
     let from = c.loop.done in
     let room = length c.loop.buffer - from in
     let within = c.loop.invariant.within in
-    elim c.match-read.branch [
-      | in-Ok w ↦
-          let part = slice_range-put_mid from room w.in-Ok.n c.loop.buffer c.read.new.buf within w.in-Ok.ensures.bound.0 in
-          let joined = take_split from (from + w.in-Ok.n) c.loop.buffer (put_mid from room c.loop.buffer c.read.new.buf) (omega arith) (take-put_mid_below _ _ _ _ _ (le_refl _) within) in
-          record {
-            within = search rules;
-            given = rw w.done-is (subst (Consumes _ _) (ap (λ l. take from c.loop.buffer ++ l) (sym part) ∙ joined) (Consumes-trans _ _ _ _ _ c.loop.invariant.given w.in-Ok.ensures.bytes.0));
-          }
-      | in-Err+else-ne w ↦
-          record {
-            within = search rules;
-            given = rw w.done-is (subst (Consumes _ _) (sym (take-put_mid_below _ _ _ _ _ (le_refl _) within)) (Consumes-kept _ _ _ _ c.loop.invariant.given w.in-Err.ensures.bytes));
-          }
-    ]
+    let part = slice_range-put_mid from room c.in-Ok.n c.loop.buffer c.read.new.buf within c.in-Ok.ensures.bound.0 in
+    let joined = take_split from (from + c.in-Ok.n) c.loop.buffer (put_mid from room c.loop.buffer c.read.new.buf) (omega arith) (take-put_mid_below _ _ _ _ _ (le_refl _) within) in
+    record {
+      within = search rules;
+      given = subst (Consumes _ _) (ap (λ l. take from c.loop.buffer ++ l) (sym part) ∙ joined) (Consumes-trans _ _ _ _ _ c.loop.invariant.given c.in-Ok.ensures.bytes.0);
+    }

@@ -7,7 +7,12 @@ use mathlib.Core.List.{List, [], ◌∷◌, ◌++◌, append-nil, append_assoc}
 use borrow.Author.Tests.{eqb-true, eqb-false, not-true, not-false}
 use lib.Dec.{eqb}
 use Rattle.octets.proofs.BoolLaws.{and_both}
+use Rattle.std.specs.Prelude.{Result, Ok, Err}
+use Rattle.std.specs.Result.{IsErr, IsErrAnd}
 use Rattle.refusals.specs.declared.Answer.{Answer}
+use Rattle.refusals.specs.declared.Refusal.{Refusal}
+use Rattle.refusals.specs.declared.Refusal.TheVariants.{Length, Damaged, NoRoom, BothPublic, AboveMoney, NoAnchor, EqualNullifiers, Spent, OldOutOfRange, PhiOutOfRange, PathAstray, Unbalanced, WrongNullifier, WrongAddress, WrongTag, WrongRho, WrongCommitment, PoolOutside}
+use Rattle.refusals.specs.Reasons.{answer_for, as_answer}
 use Rattle.refusals.specs.Rules.{Rule, rule, answer_in_row, answer, accepted, is_accepted, first, rules_in, for_each, None, numbered}
 
 -- a test is true or false
@@ -74,6 +79,10 @@ first_refused (r ∷ a) b h =
 pub first_passed : (a b : List Rule) → numbered a ≡ true → is_accepted (first a) ≡ true → first (a ++ b) ≡ first b
 first_passed a b n h = none_above a b (first_none a n (eqb-true (first a).number 0 h))
 
+-- a refusal is no acceptance
+pub never_accepted : (refusal : Refusal) → is_accepted (answer_for refusal) ≡ false
+never_accepted = elim [ Length ↦ refl | Damaged ↦ refl | NoRoom ↦ refl | BothPublic ↦ refl | AboveMoney i ↦ refl | NoAnchor ↦ refl | EqualNullifiers ↦ refl | Spent i row ↦ refl | OldOutOfRange i ↦ refl | PhiOutOfRange ↦ refl | PathAstray i ↦ refl | Unbalanced ↦ refl | WrongNullifier i ↦ refl | WrongAddress i ↦ refl | WrongTag i ↦ refl | WrongRho i ↦ refl | WrongCommitment i ↦ refl | PoolOutside ↦ refl ]
+
 -- a function that asks one refusal after the other, with b for whether its answer a to the refusal g accepts: where it does not, it is the whole
 -- answer, and where it does the rest decides
 module _ (g : List Rule) (gs : List (List Rule)) (a : Answer) (b : Bool) (e : a ≡ first g) (q : b ≡ is_accepted a) where
@@ -84,6 +93,22 @@ module _ (g : List Rule) (gs : List (List Rule)) (a : Answer) (b : Bool) (e : a 
   pub goes_on : numbered g ≡ true → not b ≡ false → first (rules_in (g ∷ gs)) ≡ first (rules_in gs)
   unfolding rules_in
   goes_on n h = first_passed g (rules_in gs) n (ap is_accepted (sym e) ∙ sym q ∙ not-false b h)
+
+-- the same where each refusal is asked with `?`: what it passes on is the whole answer, and where it passes nothing on the rest decides
+pub passed_on : (refusal : Refusal) (asked : Result Unit Refusal) → IsErr asked × IsErrAnd asked (λ (r : Refusal). r ≡ refusal) → as_answer asked ≡ answer_for refusal
+passed_on refusal (Err r) h = ap answer_for h.1
+passed_on refusal (Ok u) h = absurd h.1
+
+module _ (g : List Rule) (gs : List (List Rule)) where
+  pub refused_by : (refusal : Refusal) (asked : Result Unit Refusal) → answer_for refusal ≡ first g → IsErr asked × IsErrAnd asked (λ (r : Refusal). r ≡ refusal)
+      → as_answer asked ≡ first (rules_in (g ∷ gs))
+  unfolding rules_in
+  refused_by refusal asked e h =
+      passed_on refusal asked h ∙ e ∙ sym (first_refused g (rules_in gs) (ap is_accepted (sym e) ∙ never_accepted refusal))
+
+  pub passed_by : (a : Answer) → numbered g ≡ true → accepted ≡ first g → a ≡ first (rules_in gs) → a ≡ first (rules_in (g ∷ gs))
+  unfolding rules_in
+  passed_by a n e h = h ∙ sym (first_passed g (rules_in gs) n (ap is_accepted (sym e)))
 
 pub rows_append : (gs hs : List (List Rule)) → rules_in (gs ++ hs) ≡ rules_in gs ++ rules_in hs
 unfolding rules_in
@@ -97,6 +122,16 @@ module _ (gs hs : List (List Rule)) (a : Answer) (b : Bool) (e : a ≡ first (ru
 
   pub run_goes_on : numbered (rules_in gs) ≡ true → not b ≡ false → first (rules_in (gs ++ hs)) ≡ first (rules_in hs)
   run_goes_on n h = rw (rows_append gs hs) (first_passed (rules_in gs) (rules_in hs) n (ap is_accepted (sym e) ∙ sym q ∙ not-false b h))
+
+-- the same by `?`
+module _ (gs hs : List (List Rule)) where
+  pub run_refused_by : (refusal : Refusal) (asked : Result Unit Refusal) → answer_for refusal ≡ first (rules_in gs)
+      → IsErr asked × IsErrAnd asked (λ (r : Refusal). r ≡ refusal) → as_answer asked ≡ first (rules_in (gs ++ hs))
+  run_refused_by refusal asked e h =
+      rw (rows_append gs hs) (passed_on refusal asked h ∙ e ∙ sym (first_refused (rules_in gs) (rules_in hs) (ap is_accepted (sym e) ∙ never_accepted refusal)))
+
+  pub run_passed_by : (a : Answer) → numbered (rules_in gs) ≡ true → accepted ≡ first (rules_in gs) → a ≡ first (rules_in hs) → a ≡ first (rules_in (gs ++ hs))
+  run_passed_by a n e h = rw (rows_append gs hs) (h ∙ sym (first_passed (rules_in gs) (rules_in hs) n (ap is_accepted (sym e))))
 
 pub last_group : (g : List Rule) → first g ≡ first (rules_in (g ∷ []))
 unfolding rules_in

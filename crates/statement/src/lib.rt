@@ -5,74 +5,72 @@
 
 ghost use Rattle.std.specs.Prelude.{◌≡◌, ◌+◌, ◌*◌, ◌^◌, ◌<◌, [], ◌∷◌};
 ghost use Rattle.units.specs.Pairs.{number_of};
-ghost use Rattle.refusals.specs.Rules.{first, rules_in};
+ghost use Rattle.refusals.specs.Rules.{answer, first, rules_in};
+ghost use Rattle.refusals.specs.Reasons.{as_answer, answer_for};
 ghost use Rattle.casefile.specs.Fields.{anchor_of, old_value_of};
-ghost use Rattle.statement.specs.Claims.{claim_number, claim_wrong, pair_refusals};
+ghost use Rattle.statement.specs.Claims.{claim_wrong, claim_number, pair_refusals};
 ghost use Rattle.statement.specs.CaseRefusals.{no1, no4, no5, no7, no9, no10, no11, range_of, strays_of, unbalanced_of, nullifier_wrong, address_wrong, tag_wrong, rho_wrong, commitment_wrong, h_sig_of, old_commitment_of, public_refusals, witness_refusals, claim_refusals, derived_refusals, path_end_of, ends_elsewhere, differs as differs_of};
 
-use refusals::Answer;
+use refusals::Refusal;
 use units::{Amount, Which};
 
 // 1
-fn length(case: &[u8]) -> Answer
-    ensures { result ≡ first (no1 case.now) }
+fn length(case: &[u8]) -> Result<(), Refusal>
+    ensures { as_answer result ≡ first (no1 case.now) }
 {
     if casefile::has_length(case) {
-        Answer::accepted()
+        Ok(())
     } else {
-        Answer::refused(1, 0)
+        Err(Refusal::Length)
     }
 }
 
 // 4
-fn one_sided(case: &[u8]) -> Answer
-    ensures { result ≡ first (no4 case.now) }
+fn one_sided(case: &[u8]) -> Result<(), Refusal>
+    ensures { as_answer result ≡ first (no4 case.now) }
 {
     if casefile::vpub_old(case).is_zero() {
-        return Answer::accepted();
+        return Ok(());
     }
     if casefile::vpub_new(case).is_zero() {
-        return Answer::accepted();
+        return Ok(());
     }
-    Answer::refused(4, 0)
+    Err(Refusal::BothPublic)
 }
 
 // 5
-fn public_amounts(case: &[u8]) -> Answer
-    ensures { result ≡ first (no5 case.now) }
+fn public_amounts(case: &[u8]) -> Result<(), Refusal>
+    ensures { as_answer result ≡ first (no5 case.now) }
 {
     if !casefile::vpub_old(case).is_money() {
-        return Answer::refused(5, 1);
+        return Err(Refusal::AboveMoney(Which::First));
     }
     if !casefile::vpub_new(case).is_money() {
-        return Answer::refused(5, 2);
+        return Err(Refusal::AboveMoney(Which::Second));
     }
-    Answer::accepted()
+    Ok(())
 }
 
 // 4 and 5: what the two public values must satisfy.
-pub fn public_values(case: &[u8]) -> Answer
-    ensures { result ≡ first (rules_in (no4 case.now ∷ no5 case.now ∷ [])) }
+pub fn public_values(case: &[u8]) -> Result<(), Refusal>
+    ensures { as_answer result ≡ first (rules_in (no4 case.now ∷ no5 case.now ∷ [])) }
 {
-    let a4 = one_sided(case);
-    if !a4.is_accepted() {
-        return a4;
-    }
+    one_sided(case)?;
     public_amounts(case)
 }
 
 // 7. The two are compared by words of eight bytes, of which the first nearly always decides.
-pub fn distinct(case: &[u8]) -> Answer
-    ensures { result ≡ first (no7 case.now) }
+pub fn distinct(case: &[u8]) -> Result<(), Refusal>
+    ensures { as_answer result ≡ first (no7 case.now) }
 {
     let one = casefile::nullifier(case, Which::First);
     let two = casefile::nullifier(case, Which::Second);
     for k in 0..4 {
         if octets::le64(&one, 8 * k) != octets::le64(&two, 8 * k) {
-            return Answer::accepted();
+            return Ok(());
         }
     }
-    Answer::refused(7, 0)
+    Err(Refusal::EqualNullifiers)
 }
 
 // 9
@@ -86,20 +84,20 @@ fn out_of_range(case: &[u8], i: Which) -> bool
     !casefile::old_position(case, i).is_leaf()
 }
 
-pub fn ranges(case: &[u8]) -> Answer
-    ensures { result ≡ first (no9 case.now) }
+pub fn ranges(case: &[u8]) -> Result<(), Refusal>
+    ensures { as_answer result ≡ first (no9 case.now) }
 {
     if out_of_range(case, Which::First) {
-        return Answer::refused(9, 1);
+        return Err(Refusal::OldOutOfRange(Which::First));
     }
     if out_of_range(case, Which::Second) {
-        return Answer::refused(9, 2);
+        return Err(Refusal::OldOutOfRange(Which::Second));
     }
     let phi = casefile::phi(case);
     if sprout::has_top_bits(&phi) {
-        return Answer::refused(9, 3);
+        return Err(Refusal::PhiOutOfRange);
     }
-    Answer::accepted()
+    Ok(())
 }
 
 // 10. A note of no value is excused its path, and nothing else.
@@ -188,13 +186,13 @@ fn unbalanced(case: &[u8]) -> bool
     paid.high > 4294967295
 }
 
-pub fn balance(case: &[u8]) -> Answer
-    ensures { result ≡ first (no11 case.now) }
+pub fn balance(case: &[u8]) -> Result<(), Refusal>
+    ensures { as_answer result ≡ first (no11 case.now) }
 {
     if unbalanced(case) {
-        Answer::refused(11, 0)
+        Err(Refusal::Unbalanced)
     } else {
-        Answer::accepted()
+        Ok(())
     }
 }
 
@@ -273,17 +271,17 @@ enum Claim {
 }
 
 impl Claim {
-    // The refusal where it is wrong.
-    fn number(self) -> u8
-        ensures { result ≡ claim_number self }
+    // The refusal where it is wrong of number i.
+    fn refusal(self, i: Which) -> Refusal
+        ensures { answer_for result ≡ answer (claim_number self) (number_of i) }
     {
         match self {
-            Claim::Path => 10,
-            Claim::Nullifier => 12,
-            Claim::Address => 13,
-            Claim::Tag => 14,
-            Claim::Rho => 15,
-            Claim::Commitment => 16,
+            Claim::Path => Refusal::PathAstray(i),
+            Claim::Nullifier => Refusal::WrongNullifier(i),
+            Claim::Address => Refusal::WrongAddress(i),
+            Claim::Tag => Refusal::WrongTag(i),
+            Claim::Rho => Refusal::WrongRho(i),
+            Claim::Commitment => Refusal::WrongCommitment(i),
         }
     }
 }
@@ -303,87 +301,60 @@ fn is_wrong(case: &[u8], claim: Claim, i: Which, h: &[u8; 32]) -> bool
 }
 
 // The first of the pair is asked first.
-fn pair(case: &[u8], claim: Claim, h: &[u8; 32]) -> Answer
-    ensures { result ≡ first (pair_refusals claim h.now case.now) }
+fn pair(case: &[u8], claim: Claim, h: &[u8; 32]) -> Result<(), Refusal>
+    ensures { as_answer result ≡ first (pair_refusals claim h.now case.now) }
 {
     if is_wrong(case, claim, Which::First, h) {
-        return Answer::refused(claim.number(), 1);
+        return Err(claim.refusal(Which::First));
     }
     if is_wrong(case, claim, Which::Second, h) {
-        return Answer::refused(claim.number(), 2);
+        return Err(claim.refusal(Which::Second));
     }
-    Answer::accepted()
+    Ok(())
 }
 
 // 10, which is over no hSig.
-pub fn paths(case: &[u8]) -> Answer
-    ensures { result ≡ first (no10 case.now) }
+pub fn paths(case: &[u8]) -> Result<(), Refusal>
+    ensures { as_answer result ≡ first (no10 case.now) }
 {
     let none = [0u8; 32];
     pair(case, Claim::Path, &none)
 }
 
 // 12 to 16: what is claimed of keys, notes and the transaction.
-fn derived(case: &[u8]) -> Answer
-    ensures { result ≡ first (rules_in (derived_refusals case.now)) }
+fn derived(case: &[u8]) -> Result<(), Refusal>
+    ensures { as_answer result ≡ first (rules_in (derived_refusals case.now)) }
 {
     let h = h_sig(case);
-    let a12 = pair(case, Claim::Nullifier, &h);
-    if !a12.is_accepted() {
-        return a12;
-    }
-    let a13 = pair(case, Claim::Address, &h);
-    if !a13.is_accepted() {
-        return a13;
-    }
-    let a14 = pair(case, Claim::Tag, &h);
-    if !a14.is_accepted() {
-        return a14;
-    }
-    let a15 = pair(case, Claim::Rho, &h);
-    if !a15.is_accepted() {
-        return a15;
-    }
+    pair(case, Claim::Nullifier, &h)?;
+    pair(case, Claim::Address, &h)?;
+    pair(case, Claim::Tag, &h)?;
+    pair(case, Claim::Rho, &h)?;
     pair(case, Claim::Commitment, &h)
 }
 
 // 11 to 16: the balance, and what is derived.
-pub fn claims(case: &[u8]) -> Answer
-    ensures { result ≡ first (rules_in (claim_refusals case.now)) }
+pub fn claims(case: &[u8]) -> Result<(), Refusal>
+    ensures { as_answer result ≡ first (rules_in (claim_refusals case.now)) }
 {
-    let a11 = balance(case);
-    if !a11.is_accepted() {
-        return a11;
-    }
+    balance(case)?;
     derived(case)
 }
 
 // 9 to 16: what the notes and keys must satisfy.
-pub fn witness(case: &[u8]) -> Answer
-    ensures { result ≡ first (rules_in (witness_refusals case.now)) }
+pub fn witness(case: &[u8]) -> Result<(), Refusal>
+    ensures { as_answer result ≡ first (rules_in (witness_refusals case.now)) }
 {
-    let a9 = ranges(case);
-    if !a9.is_accepted() {
-        return a9;
-    }
-    let a10 = paths(case);
-    if !a10.is_accepted() {
-        return a10;
-    }
+    ranges(case)?;
+    paths(case)?;
     claims(case)
 }
 
 // 1, 4, 5 and 7: what the public part must satisfy.
-pub fn public_part(case: &[u8]) -> Answer
-    ensures { result ≡ first (rules_in (public_refusals case.now)) }
+pub fn public_part(case: &[u8]) -> Result<(), Refusal>
+    ensures { as_answer result ≡ first (rules_in (public_refusals case.now)) }
 {
-    let a1 = length(case);
-    if !a1.is_accepted() {
-        return a1;
-    }
-    let a4 = public_values(case);
-    if !a4.is_accepted() {
-        return a4;
-    }
+    length(case)?;
+    public_values(case)?;
     distinct(case)
 }

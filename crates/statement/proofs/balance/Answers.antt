@@ -5,8 +5,8 @@ use Rattle.statement.proofs.balance.Goals as goal
 
 pub returns-then-unbalanced : goal.returns-then-unbalanced
 unfolding no11
-returns-then-unbalanced c = c.refused.ensures ∙ one_holds (unbalanced_of c.args.case.now) 11 0 (sym c.unbalanced.ensures ∙ c.if-unbalanced.true)
+returns-then-unbalanced c = one_holds (unbalanced_of c.args.case.now) 11 0 (sym c.unbalanced.ensures ∙ c.if-unbalanced.true)
 
 pub returns-else-unbalanced : goal.returns-else-unbalanced
 unfolding no11
-returns-else-unbalanced c = c.accepted.ensures ∙ one_fails (unbalanced_of c.args.case.now) 11 0 (sym c.unbalanced.ensures ∙ c.if-unbalanced.false)
+returns-else-unbalanced c = one_fails (unbalanced_of c.args.case.now) 11 0 (sym c.unbalanced.ensures ∙ c.if-unbalanced.false)

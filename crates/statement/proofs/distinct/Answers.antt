@@ -25,7 +25,7 @@ pub returns-then-le64 : goal.returns-then-le64
 unfolding no7
 returns-then-le64 c =
     let e = word_differs c.nullifier-one.result c.nullifier-two.result c.loop-k.k (λ h. c.if-le64.true (c.le64.ensures ∙ h ∙ sym c.le64-in-loop-k.ensures)) in
-    c.accepted.ensures ∙ one_fails _ 7 0 (sym (ap₂ same c.nullifier-one.ensures c.nullifier-two.ensures) ∙ e)
+    one_fails _ 7 0 (sym (ap₂ same c.nullifier-one.ensures c.nullifier-two.ensures) ∙ e)
 
 pub loop-k-preserved : goal.loop-k-preserved
 loop-k-preserved c =
@@ -38,4 +38,4 @@ unfolding no7
 returns c =
     let v = c.loop-k.invariant in
     let four : c.loop-k.k ≡ 4 = omega arith in
-    c.refused.ensures ∙ one_holds _ 7 0 (sym (ap₂ same c.nullifier-one.ensures c.nullifier-two.ensures) ∙ words_same c.nullifier-one.result c.nullifier-two.result v.1.0 v.1.1.0 (rw four at v.1.1.1))
+    one_holds _ 7 0 (sym (ap₂ same c.nullifier-one.ensures c.nullifier-two.ensures) ∙ words_same c.nullifier-one.result c.nullifier-two.result v.1.0 v.1.1.0 (rw four at v.1.1.1))

@@ -25,14 +25,14 @@ unfolding no4
 returns-then-is_zero c =
     let case = c.args.case.now in
     let e : eqb (vpub_old_of case) 0 ≡ true = ap (λ (v : ℕ). eqb v 0) (sym c.vpub_old.ensures) ∙ sym c.is_zero.ensures ∙ c.if-is_zero.true in
-    c.accepted.ensures ∙ one_fails (both_public (vpub_old_of case) (vpub_new_of case)) 4 0 (none (vpub_old_of case) (vpub_new_of case) e)
+    one_fails (both_public (vpub_old_of case) (vpub_new_of case)) 4 0 (none (vpub_old_of case) (vpub_new_of case) e)
 
 pub returns-then-is_zero-2 : goal.returns-then-is_zero-2
 unfolding no4
 returns-then-is_zero-2 c =
     let case = c.args.case.now in
     let e : eqb (vpub_new_of case) 0 ≡ true = ap (λ (v : ℕ). eqb v 0) (sym c.vpub_new.ensures) ∙ sym c.is_zero-2.ensures ∙ c.if-is_zero-2.true in
-    c.accepted-then-is_zero-2.ensures ∙ one_fails (both_public (vpub_old_of case) (vpub_new_of case)) 4 0 (old_alone (vpub_old_of case) (vpub_new_of case) e)
+    one_fails (both_public (vpub_old_of case) (vpub_new_of case)) 4 0 (old_alone (vpub_old_of case) (vpub_new_of case) e)
 
 pub returns : goal.returns
 unfolding no4
@@ -40,4 +40,4 @@ returns c =
     let case = c.args.case.now in
     let e : eqb (vpub_old_of case) 0 ≡ false = ap (λ (v : ℕ). eqb v 0) (sym c.vpub_old.ensures) ∙ sym c.is_zero.ensures ∙ c.if-is_zero.false in
     let f : eqb (vpub_new_of case) 0 ≡ false = ap (λ (v : ℕ). eqb v 0) (sym c.vpub_new.ensures) ∙ sym c.is_zero-2.ensures ∙ c.if-is_zero-2.false in
-    c.refused.ensures ∙ one_holds (both_public (vpub_old_of case) (vpub_new_of case)) 4 0 (both (vpub_old_of case) (vpub_new_of case) e f)
+    one_holds (both_public (vpub_old_of case) (vpub_new_of case)) 4 0 (both (vpub_old_of case) (vpub_new_of case) e f)

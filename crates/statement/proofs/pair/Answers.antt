@@ -1,7 +1,5 @@
 -- Each return of the code is one of three laws over any pair of tests: the first applies, the second does, or none.
-use mathlib.Core.Path.{sym, ap, ◌∙◌}
-use Prim.Native.Nat.{ℕ}
-use Rattle.refusals.specs.Rules.{answer}
+use mathlib.Core.Path.{sym, ◌∙◌}
 use Rattle.refusals.proofs.RuleLaws.{each_first, each_second, each_none}
 use Rattle.statement.specs.Claims.{claim_wrong, claim_number}
 use Rattle.statement.proofs.pair.Goals as goal
@@ -9,17 +7,16 @@ use Rattle.statement.proofs.pair.Goals as goal
 pub returns-then-is_wrong : goal.returns-then-is_wrong
 returns-then-is_wrong c =
     let a = c.args in
-    c.refused.ensures ∙ ap (λ (n : ℕ). answer n 1) c.number.ensures
+    c.refusal.ensures
     ∙ each_first (claim_wrong a.claim a.h.now a.case.now) (claim_number a.claim) (sym c.is_wrong.ensures ∙ c.if-is_wrong.true)
 
 pub returns-then-is_wrong-2 : goal.returns-then-is_wrong-2
 returns-then-is_wrong-2 c =
     let a = c.args in
-    c.refused-then-is_wrong-2.ensures ∙ ap (λ (n : ℕ). answer n 2) c.number-then-is_wrong-2.ensures
+    c.refusal-then-is_wrong-2.ensures
     ∙ each_second (claim_wrong a.claim a.h.now a.case.now) (claim_number a.claim) (sym c.is_wrong.ensures ∙ c.if-is_wrong.false) (sym c.is_wrong-2.ensures ∙ c.if-is_wrong-2.true)
 
 pub returns : goal.returns
 returns c =
     let a = c.args in
-    c.accepted.ensures
-    ∙ each_none (claim_wrong a.claim a.h.now a.case.now) (claim_number a.claim) (sym c.is_wrong.ensures ∙ c.if-is_wrong.false) (sym c.is_wrong-2.ensures ∙ c.if-is_wrong-2.false)
+    each_none (claim_wrong a.claim a.h.now a.case.now) (claim_number a.claim) (sym c.is_wrong.ensures ∙ c.if-is_wrong.false) (sym c.is_wrong-2.ensures ∙ c.if-is_wrong-2.false)

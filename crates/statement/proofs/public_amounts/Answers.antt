@@ -19,7 +19,7 @@ unfolding no5 first
 returns-then-not-is_money c =
     let case = c.args.case.now in
     let e : above_money (vpub_old_of case) ≡ true = above (vpub_old_of case) _ _ (sym c.vpub_old.ensures) c.is_money.ensures ∙ (ap not c.if-not-is_money.true) in
-    c.refused.ensures ∙ rw e
+    rw e
 
 pub returns-then-not-is_money-2 : goal.returns-then-not-is_money-2
 unfolding no5 first
@@ -27,7 +27,7 @@ returns-then-not-is_money-2 c =
     let case = c.args.case.now in
     let e : above_money (vpub_old_of case) ≡ false = above (vpub_old_of case) _ _ (sym c.vpub_old.ensures) c.is_money.ensures ∙ (ap not c.if-not-is_money.false) in
     let f : above_money (vpub_new_of case) ≡ true = above (vpub_new_of case) _ _ (sym c.vpub_new.ensures) c.is_money-2.ensures ∙ (ap not c.if-not-is_money-2.true) in
-    c.refused-then-not-is_money-2.ensures ∙ rw (e, f)
+    rw (e, f)
 
 pub returns : goal.returns
 unfolding no5 first
@@ -35,4 +35,4 @@ returns c =
     let case = c.args.case.now in
     let e : above_money (vpub_old_of case) ≡ false = above (vpub_old_of case) _ _ (sym c.vpub_old.ensures) c.is_money.ensures ∙ (ap not c.if-not-is_money.false) in
     let f : above_money (vpub_new_of case) ≡ false = above (vpub_new_of case) _ _ (sym c.vpub_new.ensures) c.is_money-2.ensures ∙ (ap not c.if-not-is_money-2.false) in
-    c.accepted.ensures ∙ rw (e, f)
+    rw (e, f)

@@ -12,7 +12,7 @@ unfolding no9 first
 returns-then-out_of_range c =
     let case = c.args.case.now in
     let e : range_of case 1 ≡ true = sym c.out_of_range.ensures ∙ c.if-out_of_range.true in
-    c.refused.ensures ∙ rw e
+    rw e
 
 pub returns-then-out_of_range-2 : goal.returns-then-out_of_range-2
 unfolding no9 first
@@ -20,7 +20,7 @@ returns-then-out_of_range-2 c =
     let case = c.args.case.now in
     let e : range_of case 1 ≡ false = sym c.out_of_range.ensures ∙ c.if-out_of_range.false in
     let f : range_of case 2 ≡ true = sym c.out_of_range-2.ensures ∙ c.if-out_of_range-2.true in
-    c.refused-then-out_of_range-2.ensures ∙ rw (e, f)
+    rw (e, f)
 
 pub returns-then-has_top_bits : goal.returns-then-has_top_bits
 unfolding no9 first
@@ -29,7 +29,7 @@ returns-then-has_top_bits c =
     let e : range_of case 1 ≡ false = sym c.out_of_range.ensures ∙ c.if-out_of_range.false in
     let f : range_of case 2 ≡ false = sym c.out_of_range-2.ensures ∙ c.if-out_of_range-2.false in
     let g : has_top_bits (phi_of case) ≡ true = ap has_top_bits (sym c.phi-phi.ensures) ∙ sym c.has_top_bits.ensures ∙ c.if-has_top_bits.true in
-    c.refused-then-has_top_bits.ensures ∙ rw (e, f, g)
+    rw (e, f, g)
 
 pub returns : goal.returns
 unfolding no9 first
@@ -38,4 +38,4 @@ returns c =
     let e : range_of case 1 ≡ false = sym c.out_of_range.ensures ∙ c.if-out_of_range.false in
     let f : range_of case 2 ≡ false = sym c.out_of_range-2.ensures ∙ c.if-out_of_range-2.false in
     let g : has_top_bits (phi_of case) ≡ false = ap has_top_bits (sym c.phi-phi.ensures) ∙ sym c.has_top_bits.ensures ∙ c.if-has_top_bits.false in
-    c.accepted.ensures ∙ rw (e, f, g)
+    rw (e, f, g)

@@ -1,28 +1,17 @@
-use mathlib.Core.Path.{refl, sym, ap, ◌∙◌}
-use mathlib.Core.Bool.{not}
-use mathlib.Core.List.{◌∷◌}
+use mathlib.Core.Path.{refl}
 use Rattle.refusals.specs.Rules.{numbered}
-use Rattle.refusals.proofs.RuleLaws.{stops, goes_on}
-use Rattle.statement.specs.CaseRefusals.{no9, no10, claim_refusals, witness_refusals}
+use Rattle.refusals.proofs.RuleLaws.{refused_by, passed_by}
+use Rattle.statement.specs.CaseRefusals.{no9, no10, witness_refusals}
 use Rattle.statement.proofs.witness.Goals as goal
 
-pub returns-then-not-is_accepted : goal.returns-then-not-is_accepted
+pub returns-in_err-ranges : goal.returns-in_err-ranges
 unfolding witness_refusals
-returns-then-not-is_accepted c =
-    let case = c.args.case.now in
-    stops (no9 case) (no10 case ∷ claim_refusals case) _ _ c.ranges-a9.ensures c.is_accepted.ensures (ap not c.if-not-is_accepted.true)
+returns-in_err-ranges c = refused_by _ _ _ _ c.in_err-ranges.ensures c.from_residual.ensures
 
-pub returns-then-not-is_accepted-2 : goal.returns-then-not-is_accepted-2
+pub returns-in_err-paths : goal.returns-in_err-paths
 unfolding witness_refusals numbered no9
-returns-then-not-is_accepted-2 c =
-    let case = c.args.case.now in
-    stops (no10 case) (claim_refusals case) _ _ c.paths-a10.ensures c.is_accepted-2.ensures (ap not c.if-not-is_accepted-2.true)
-    ∙ sym (goes_on (no9 case) (no10 case ∷ claim_refusals case) _ _ c.ranges-a9.ensures c.is_accepted.ensures refl (ap not c.if-not-is_accepted.false))
+returns-in_err-paths c = passed_by _ _ _ refl c.in_ok-ranges.ensures (refused_by _ _ _ _ c.in_err-paths.ensures c.from_residual-in_err-paths.ensures)
 
 pub returns : goal.returns
 unfolding witness_refusals numbered no9 no10
-returns c =
-    let case = c.args.case.now in
-    c.claims.ensures
-    ∙ sym (goes_on (no9 case) (no10 case ∷ claim_refusals case) _ _ c.ranges-a9.ensures c.is_accepted.ensures refl (ap not c.if-not-is_accepted.false)
-    ∙ goes_on (no10 case) (claim_refusals case) _ _ c.paths-a10.ensures c.is_accepted-2.ensures refl (ap not c.if-not-is_accepted-2.false))
+returns c = passed_by _ _ _ refl c.in_ok-ranges.ensures (passed_by _ _ _ refl c.in_ok-paths.ensures c.claims.ensures)

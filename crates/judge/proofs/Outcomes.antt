@@ -5,8 +5,12 @@ use mathlib.Core.Path.{◌≡◌, sym, ap, ◌∙◌}
 use mathlib.Core.Bool.{Bool, true, false, not}
 use mathlib.Core.List.{List, [], ◌∷◌, ◌++◌}
 use Rattle.refusals.specs.declared.Answer.{Answer}
-use Rattle.refusals.specs.Rules.{rules_in, first, answer, is_accepted}
-use Rattle.refusals.proofs.RuleLaws.{run_stops, run_goes_on, last_group}
+use Rattle.refusals.specs.Rules.{rules_in, first, answer, accepted, is_accepted}
+use Rattle.std.specs.Prelude.{Result}
+use Rattle.std.specs.Result.{IsErr, IsErrAnd}
+use Rattle.refusals.specs.declared.Refusal.{Refusal}
+use Rattle.refusals.specs.Reasons.{answer_for, as_answer}
+use Rattle.refusals.proofs.RuleLaws.{run_refused_by, run_passed_by, last_group}
 use Rattle.casefile.specs.Fields.{has_length, vpub_old_of, vpub_new_of, nullifier_of, commitment_of}
 use Rattle.statement.specs.CaseRefusals.{no1, witness_refusals}
 use Rattle.ledger.specs.declared.Ledger.{Ledger}
@@ -24,27 +28,25 @@ module _ (c t r : List ℕ) (l : Ledger) where
   unfolding answer_of judge_refusals rules_in no1 first
   length_decides h = rw h
 
-  -- the half that needs no hash decides, or what comes behind it
-  module _ (a : Answer) (b : Bool) (e : a ≡ first (rules_in (front_refusals c t r l))) (q : b ≡ is_accepted a) where
-    pub front_decides : not b ≡ true → a ≡ answer_of c t r l
-    unfolding answer_of
-    front_decides h = run_stops (front_refusals c t r l) (witness_refusals c ++ (pool_refusals c l ∷ [])) a b e q h ∙ ap first (sym (behind_front c t r l))
+  -- then the half that needs no hash, the witness and the pool, one after the other
+  whole : (a : Answer) → a ≡ first (rules_in (front_refusals c t r l ++ (witness_refusals c ++ (pool_refusals c l ∷ [])))) → a ≡ answer_of c t r l
+  unfolding answer_of
+  whole a h = h ∙ ap first (sym (behind_front c t r l))
 
-    behind : not b ≡ false → answer_of c t r l ≡ first (rules_in (witness_refusals c ++ (pool_refusals c l ∷ [])))
-    unfolding answer_of
-    behind h =
-        ap first (behind_front c t r l)
-        ∙ run_goes_on (front_refusals c t r l) (witness_refusals c ++ (pool_refusals c l ∷ [])) a b e q (front_numbers c t r l) h
+  module _ (refusal : Refusal) (asked : Result Unit Refusal) (h : IsErr asked × IsErrAnd asked (λ (r : Refusal). r ≡ refusal)) where
+    pub front_decides : answer_for refusal ≡ first (rules_in (front_refusals c t r l)) → as_answer asked ≡ answer_of c t r l
+    front_decides e = whole _ (run_refused_by (front_refusals c t r l) (witness_refusals c ++ (pool_refusals c l ∷ [])) refusal asked e h)
 
-    -- the witness decides, or the pool does
-    module _ (p : not b ≡ false) (a' : Answer) (b' : Bool) (e' : a' ≡ first (rules_in (witness_refusals c))) (q' : b' ≡ is_accepted a') where
-      pub witness_decides : not b' ≡ true → a' ≡ answer_of c t r l
-      witness_decides h = run_stops (witness_refusals c) (pool_refusals c l ∷ []) a' b' e' q' h ∙ sym (behind p)
+    pub witness_decides : accepted ≡ first (rules_in (front_refusals c t r l)) → answer_for refusal ≡ first (rules_in (witness_refusals c)) → as_answer asked ≡ answer_of c t r l
+    witness_decides p e =
+        whole _ (run_passed_by (front_refusals c t r l) (witness_refusals c ++ (pool_refusals c l ∷ [])) _ (front_numbers c t r l) p
+        (run_refused_by (witness_refusals c) (pool_refusals c l ∷ []) refusal asked e h))
 
-      pub pool_decides : not b' ≡ false → first (pool_refusals c l) ≡ answer_of c t r l
-      pool_decides h =
-          last_group (pool_refusals c l)
-          ∙ sym (behind p ∙ run_goes_on (witness_refusals c) (pool_refusals c l ∷ []) a' b' e' q' (witness_numbers c t r l) h)
+  pub pool_decides : (a : Answer) → accepted ≡ first (rules_in (front_refusals c t r l)) → accepted ≡ first (rules_in (witness_refusals c)) → a ≡ first (pool_refusals c l)
+      → a ≡ answer_of c t r l
+  pool_decides a p q e =
+      whole _ (run_passed_by (front_refusals c t r l) (witness_refusals c ++ (pool_refusals c l ∷ [])) a (front_numbers c t r l) p
+      (run_passed_by (witness_refusals c) (pool_refusals c l ∷ []) a (witness_numbers c t r l) q (e ∙ last_group (pool_refusals c l))))
 
   -- a refusal leaves everything
   pub refused_ledger : is_accepted (answer_of c t r l) ≡ false → ledger_after_case c t r l ≡ l

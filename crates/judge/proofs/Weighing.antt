@@ -1,87 +1,69 @@
--- An answer in hand, own, weighed against a table of refusals that is asked one by one: what is returned is the lower of the two. And the ledger's table as it
--- is asked: 2 and 3, the middle, the pool.
+-- An answer in hand, own, weighed against a table of refusals that is asked one by one: what is passed on is the lower of the two.
 -- Assumes nothing.
-use Prim.Native.Nat.{ℕ, ◌≤◌, ◌<◌}
+use Prim.Native.Nat.{ℕ}
 use mathlib.Core.Path.{◌≡◌, refl, sym, ap, ◌∙◌}
-use mathlib.Core.Bool.{Bool, true, false, not}
+use mathlib.Core.Bool.{Bool, true, false, cond}
 use mathlib.Core.List.{List, [], ◌∷◌}
-use native.Mathlib.Omega.{arith}
-use borrow.Author.Tests.{not-true, not-false, leb-true, leb-false, le-leb, lt-leb}
-use lib.Dec.{eqb, leb}
+use Rattle.std.specs.Prelude.{Result, Ok, Err}
+use Rattle.std.specs.Result.{IsErr, IsErrAnd}
 use Rattle.refusals.specs.declared.Answer.{Answer}
-use Rattle.refusals.specs.Rules.{Rule, rules_in, first, numbered, is_accepted, lower, refuses_up_to}
-use Rattle.refusals.proofs.RuleLaws.{by_test, stops, goes_on, one_passed}
-use Rattle.refusals.proofs.TwoTables.{never_falls, those, first_lower, all_from, all_up_to, keeps, gives_up}
+use Rattle.refusals.specs.declared.Refusal.{Refusal}
+use Rattle.refusals.specs.Reasons.{answer_for}
+use Rattle.refusals.specs.Rules.{Rule, rules_in, first, numbered, accepted, is_accepted, lower, refuses_up_to}
+use Rattle.refusals.proofs.RuleLaws.{never_accepted, decided_by, passed_by, one_passed}
+use Rattle.refusals.proofs.TwoTables.{all_from, all_up_to, keeps, gives_up, has_still}
 use Rattle.casefile.specs.Fields.{anchor_of, nullifier_of}
 use Rattle.ledger.specs.declared.Ledger.{Ledger}
-use Rattle.ledger.specs.Ledgers.{damaged, no2, no3, no6, no8, no17}
-use Rattle.judge.specs.Judging.{middle_refusals}
+use Rattle.ledger.specs.Ledgers.{damaged, no2, no6, no8}
+use Rattle.judge.specs.Settling.{kept_unless, own_or}
 use Rattle.judge.proofs.Halves.{pool_refusals}
+use native.Mathlib.Omega.{arith}
 
--- own counts where it refuses with a number up to n and all that is left has n or more
-pub own_counts : (n : ℕ) (own : Answer) (up : Bool) (gs : List (List Rule)) (all : Answer) → up ≡ refuses_up_to n own → up ≡ true → all_from n (rules_in gs) ≡ true
-    → all ≡ first (rules_in gs) → own ≡ lower own all
-own_counts n own up gs all e h k q =
-    keeps n own (rules_in gs) (sym e ∙ h) k ∙ ap (lower own) (sym q)
+-- what `unless` says of the answer in hand
+passed_own : (b : Bool) (own a : Answer) → ◌≡◌ {A = Result (Unit {0}) Answer} (Err a) (cond b (Err own) (Ok tt)) → (b ≡ true) × (a ≡ own)
+passed_own true own a h = (refl, cc)
+passed_own false own a h = cc
 
--- the group g's answer counts where it refuses with a number up to n and own does not
-pub group_counts : (n : ℕ) (own a : Answer) (up passed : Bool) (g : List Rule) (gs : List (List Rule)) (all : Answer) → up ≡ refuses_up_to n own → up ≡ false → all_up_to n g ≡ true
-    → a ≡ first g → passed ≡ is_accepted a → not passed ≡ true → all ≡ first (rules_in (g ∷ gs)) → a ≡ lower own all
-group_counts n own a up passed g gs all e h k q y r w =
-    gives_up n own g a (sym e ∙ h) k q (sym y ∙ not-true passed r) ∙ ap (lower own) (stops g gs a passed q y r ∙ sym w)
+held_own : (b : Bool) (own : Answer) (u : Unit {0}) → ◌≡◌ {A = Result (Unit {0}) Answer} (Ok u) (cond b (Err own) (Ok tt)) → b ≡ false
+held_own true own u h = cc
+held_own false own u h = refl
 
--- the lowest of three answers, two of them weighed first
-lower_of_three : (a b d : Answer) → lower a (lower b d) ≡ lower (lower a b) d
-lower_of_three a b d =
-    by_test (is_accepted d)
-    (λ e. simp e)
-    (λ e. by_test (is_accepted b)
-    (λ f. simp (e, f))
-    (λ f. by_test (is_accepted a)
-    (λ g. by_test (leb b.number d.number) (λ x. simp (e, f, g, x)) (λ x. simp (e, f, g, x)))
-    (λ g. all_refuse e f g)))
-  where
-    all_refuse : is_accepted d ≡ false → is_accepted b ≡ false → is_accepted a ≡ false → lower a (lower b d) ≡ lower (lower a b) d
-    all_refuse e f g =
-        by_test (leb b.number d.number)
-        (λ x. by_test (leb a.number b.number)
-        (λ y. let l : b.number ≤ d.number = leb-true b.number d.number x in
-        let m : a.number ≤ b.number = leb-true a.number b.number y in
-        simp (e, f, g, x, y, le-leb a.number d.number (omega arith)))
-        (λ y. simp (e, f, g, x, y)))
-        (λ x. by_test (leb a.number b.number)
-        (λ y. simp (e, f, g, x, y))
-        (λ y. let l : d.number < b.number = leb-false b.number d.number x in
-        let m : b.number < a.number = leb-false a.number b.number y in
-        simp (e, f, g, x, y, lt-leb a.number d.number (omega arith))))
+-- what `?` passes on is what the caller gets
+passed_answer : (own a : Answer) (passed : Result Unit Answer) → IsErr passed × IsErrAnd passed (λ (x : Answer). x ≡ a) → own_or own passed ≡ a
+passed_answer own a (Err x) h = h.1
+passed_answer own a (Ok u) h = absurd h.1
 
--- the pool's number is 17, and all others of the ledger's come before it
-unfoldable before_pool : ℕ → Bool
-before_pool n = not (eqb n 17)
+module _ (own : Answer) where
+  -- own counts where it refuses with a number up to n and all that is left has n or more
+  pub own_stops : (n : ℕ) (a : Answer) (passed : Result Unit Answer) (gs : List (List Rule)) → all_from n (rules_in gs) ≡ true → Err a ≡ kept_unless n own
+      → IsErr passed × IsErrAnd passed (λ (x : Answer). x ≡ a) → own_or own passed ≡ lower own (first (rules_in gs))
+  own_stops n a passed gs k e h =
+      let p = passed_own (refuses_up_to n own) own a e in
+      passed_answer own a passed h ∙ p.1 ∙ keeps n own (rules_in gs) p.0 k
+
+  -- the refusal of the group g counts where it has a number up to n and own does not refuse with one
+  pub group_stops : (n : ℕ) (u : Unit) (refusal : Refusal) (passed : Result Unit Answer) (g : List Rule) (gs : List (List Rule)) → all_up_to n g ≡ true → Ok u ≡ kept_unless n own
+      → answer_for refusal ≡ first g → IsErr passed × IsErrAnd passed (λ (x : Answer). x ≡ answer_for refusal) → own_or own passed ≡ lower own (first (rules_in (g ∷ gs)))
+  group_stops n u refusal passed g gs k o e h =
+      passed_answer own (answer_for refusal) passed h
+      ∙ gives_up n own g (answer_for refusal) (held_own (refuses_up_to n own) own u o) k e (never_accepted refusal)
+      ∙ ap (lower own) (decided_by g gs (answer_for refusal) (never_accepted refusal) e)
+
+  -- a group that refuses nothing is passed over
+  pub group_passes : (a : Answer) (g : List Rule) (gs : List (List Rule)) → numbered g ≡ true → accepted ≡ first g → a ≡ lower own (first (rules_in gs)) → a ≡ lower own (first (rules_in (g ∷ gs)))
+  group_passes a g gs n e h = h ∙ ap (lower own) (passed_by g gs (first (rules_in gs)) n e refl)
+
+  -- nothing is left
+  pub own_stays : own ≡ lower own (first (rules_in []))
+  unfolding rules_in first
+  own_stays = has_still own accepted refl
 
 module _ (c t r : List ℕ) (l : Ledger) where
-  -- the middle and the pool
+  -- what the ledger is asked behind 3
   abbrev pub from_middle : List (List Rule)
   from_middle = no6 r l (anchor_of c) ∷ no8 t l (nullifier_of 1 c) (nullifier_of 2 c) ∷ pool_refusals c l ∷ []
 
-  pool_last : first (rules_in from_middle) ≡ lower (first (rules_in (middle_refusals c t r l))) (first (pool_refusals c l))
-  unfolding rules_in middle_refusals never_falls numbered those before_pool no6 no8 no17
-  pool_last = first_lower before_pool (rules_in from_middle) refl refl
-
-  pub middle_weighed : (own : Answer) → lower (lower own (first (rules_in (middle_refusals c t r l)))) (first (pool_refusals c l)) ≡ lower own (first (rules_in from_middle))
-  middle_weighed own = sym (ap (lower own) pool_last ∙ lower_of_three own (first (rules_in (middle_refusals c t r l))) (first (pool_refusals c l)))
-
--- 2 and 3 asked and passed, with b for whether the answer a accepts: the ledger is sound, and the rest decides
-module _ (t r : List ℕ) (l : Ledger) (a : Answer) (b : Bool) (e : a ≡ first (no2 t r l)) (q : b ≡ is_accepted a) (h : not b ≡ false) where
-  pub asked_sound : damaged t r l ≡ false
-  unfolding no2
-  asked_sound = one_passed (damaged t r l) 2 0 (λ z. omega arith) (ap is_accepted (sym e) ∙ sym q ∙ not-false b h)
-
-  pub past_2 : (gs : List (List Rule)) → first (rules_in (no2 t r l ∷ gs)) ≡ first (rules_in gs)
-  unfolding numbered no2
-  past_2 gs = goes_on (no2 t r l) gs a b e q refl h
-
-  pub past_3 : (a' : Answer) (b' : Bool) → a' ≡ first (no3 t l) → b' ≡ is_accepted a' → not b' ≡ false → (gs : List (List Rule))
-      → first (rules_in (no2 t r l ∷ no3 t l ∷ gs)) ≡ first (rules_in gs)
-  unfolding numbered no3
-  past_3 a' b' e' q' h' gs = past_2 (no3 t l ∷ gs) ∙ goes_on (no3 t l) gs a' b' e' q' refl h'
+-- 2 asked and passed: the ledger is sound
+pub asked_sound : (t r : List ℕ) (l : Ledger) → accepted ≡ first (no2 t r l) → damaged t r l ≡ false
+unfolding no2
+asked_sound t r l e = one_passed (damaged t r l) 2 0 (λ z. omega arith) (ap is_accepted (sym e))

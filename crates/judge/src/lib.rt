@@ -15,6 +15,7 @@ mod table;
 ghost use Rattle.std.specs.Prelude.{◌≡◌, ◌+◌, ◌*◌, ◌<◌, length};
 ghost use Rattle.octets.specs.Parts.{pasted};
 ghost use Rattle.refusals.specs.Rules.{first};
+ghost use Rattle.refusals.specs.Reasons.{as_answer};
 ghost use Rattle.casefile.specs.Fields.{vpub_old_of, vpub_new_of, nullifier_of, commitment_of};
 ghost use Rattle.tree.specs.Record.{record_root};
 ghost use Rattle.ledger.specs.Rows.{table_with_two as entered_rows};
@@ -27,7 +28,7 @@ ghost use Rattle.judge.specs.Kept.{kept_after};
 use asking::{room_in, sound};
 use ledger::{Answered, Ledger, MOST_ANCHORS};
 use ledgerbytes::Counts;
-use refusals::Answer;
+use refusals::{Answer, Refusal};
 use rows::start_of;
 use tree::Tree;
 use units::{Amount, Row, Which};
@@ -78,17 +79,14 @@ fn counts_of(ledger: Ledger) -> Counts
 }
 
 // Whether a block can be closed.
-fn closing(table: &[u8], roll: &[u8], counts: Counts) -> Answer
-    ensures { result ≡ first (close_refusals table.now roll.now (bare counts)) }
+fn closing(table: &[u8], roll: &[u8], counts: Counts) -> Result<(), Refusal>
+    ensures { as_answer result ≡ first (close_refusals table.now roll.now (bare counts)) }
 {
-    let a2 = sound(table, roll, counts);
-    if !a2.is_accepted() {
-        return a2;
-    }
+    sound(table, roll, counts)?;
     if room_in(MOST_ANCHORS, roll.len()) <= counts.anchors {
-        return Answer::refused(3, 0);
+        return Err(Refusal::NoRoom);
     }
-    Answer::accepted()
+    Ok(())
 }
 
 // Closes a block that can be closed: the current root goes onto the roll, even if it is the last one again.
@@ -112,31 +110,30 @@ pub fn close(table: &[u8], roll: &mut [u8], ledger: Ledger) -> Answered
     ensures ledger_value { result.ledger ≡ closed_of table.now roll.old ledger }
     ensures roll_after { roll.new ≡ roll_after_close table.now roll.old ledger }
 {
-    let a = closing(table, &*roll, counts_of(ledger));
-    if !a.is_accepted() {
-        return Answered { answer: a, ledger };
+    if let Err(refusal) = closing(table, &*roll, counts_of(ledger)) {
+        return Answered {
+            answer: Answer::from(refusal),
+            ledger,
+        };
     }
     let next = closed(roll, ledger);
     Answered {
-        answer: a,
+        answer: Answer::accepted(),
         ledger: next,
     }
 }
 
 // The same on a ledger that is kept as bytes, of which a refusal reads the counts alone.
-pub fn close_kept(table: &[u8], roll: &mut [u8], kept: &mut [u8]) -> Answer
-    ensures value { result ≡ first (close_refusals table.now roll.old (ledger_of kept.old)) }
+pub fn close_kept(table: &[u8], roll: &mut [u8], kept: &mut [u8]) -> Result<(), Refusal>
+    ensures value { as_answer result ≡ first (close_refusals table.now roll.old (ledger_of kept.old)) }
     ensures roll_after { roll.new ≡ roll_after_close table.now roll.old (ledger_of kept.old) }
     ensures kept_after { kept.new ≡ kept_after (first (close_refusals table.now roll.old (ledger_of kept.old))) (closed_of table.now roll.old (ledger_of kept.old)) kept.old }
 {
-    let a = closing(table, &*roll, ledgerbytes::read_counts(&*kept));
-    if !a.is_accepted() {
-        return a;
-    }
+    closing(table, &*roll, ledgerbytes::read_counts(&*kept))?;
     let before = ledgerbytes::read(&*kept);
     let next = closed(roll, before);
     ledgerbytes::write(kept, next);
-    a
+    Ok(())
 }
 
 // Enters an accepted case.
@@ -166,20 +163,14 @@ fn entered(case: &[u8], table: &mut [u8], ledger: Ledger) -> Ledger
 // The answer to a case: what its public part and the ledger say, then its witness, and last whether the pool
 // stays in its bounds. The length is asked first of all, so that all the rest is compiled for a case of that
 // length.
-fn answered(case: &[u8], table: &[u8], roll: &[u8], counts: Counts) -> Answer
-    ensures { result ≡ answer_of case.now table.now roll.now (bare counts) }
+fn answered(case: &[u8], table: &[u8], roll: &[u8], counts: Counts) -> Result<(), Refusal>
+    ensures { as_answer result ≡ answer_of case.now table.now roll.now (bare counts) }
 {
     if !casefile::has_length(case) {
-        return Answer::refused(1, 0);
+        return Err(Refusal::Length);
     }
-    let front = asking::ask(table, roll, counts, case);
-    if !front.is_accepted() {
-        return front;
-    }
-    let behind = statement::witness(case);
-    if !behind.is_accepted() {
-        return behind;
-    }
+    asking::ask(table, roll, counts, case)?;
+    statement::witness(case)?;
     asking::stays_within(counts, case)
 }
 
@@ -188,13 +179,15 @@ pub fn judge(case: &[u8], table: &mut [u8], roll: &[u8], ledger: Ledger) -> Answ
     ensures value { result ≡ judged_of case.now table.old roll.now ledger }
     ensures table_after { table.new ≡ table_after_case case.now table.old roll.now ledger }
 {
-    let answer = answered(case, &*table, roll, counts_of(ledger));
-    if !answer.is_accepted() {
-        return Answered { answer, ledger };
+    if let Err(refusal) = answered(case, &*table, roll, counts_of(ledger)) {
+        return Answered {
+            answer: Answer::from(refusal),
+            ledger,
+        };
     }
     let after = entered(case, table, ledger);
     Answered {
-        answer,
+        answer: Answer::accepted(),
         ledger: after,
     }
 }
@@ -211,17 +204,19 @@ fn enter_kept(case: &[u8], table: &mut [u8], kept: &mut [u8])
 }
 
 // The same on a ledger that is kept as bytes, of which a refusal reads the counts alone.
-pub fn judge_kept(case: &[u8], table: &mut [u8], roll: &[u8], kept: &mut [u8]) -> Answer
-    ensures value { result ≡ answer_of case.now table.old roll.now (ledger_of kept.old) }
+pub fn judge_kept(
+    case: &[u8],
+    table: &mut [u8],
+    roll: &[u8],
+    kept: &mut [u8],
+) -> Result<(), Refusal>
+    ensures value { as_answer result ≡ answer_of case.now table.old roll.now (ledger_of kept.old) }
     ensures table_after { table.new ≡ table_after_case case.now table.old roll.now (ledger_of kept.old) }
     ensures kept_after { kept.new ≡ kept_after (answer_of case.now table.old roll.now (ledger_of kept.old)) (ledger_after_case case.now table.old roll.now (ledger_of kept.old)) kept.old }
 {
-    let answer = answered(case, &*table, roll, ledgerbytes::read_counts(&*kept));
-    if !answer.is_accepted() {
-        return answer;
-    }
+    answered(case, &*table, roll, ledgerbytes::read_counts(&*kept))?;
     enter_kept(case, table, kept);
-    answer
+    Ok(())
 }
 
 // What counts of the answer that the case alone was given before: two equal nullifiers are never both entered.
@@ -229,7 +224,7 @@ fn counted(own: Answer, case: &[u8]) -> Answer
     ensures { result ≡ own_counted own case.now }
 {
     if own.is_accepted() {
-        return statement::distinct(case);
+        return Answer::from(statement::distinct(case));
     }
     own
 }

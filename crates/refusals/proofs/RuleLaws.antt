@@ -4,7 +4,7 @@ use Prim.Native.Nat.{ℕ}
 use mathlib.Core.Path.{◌≡◌, refl, sym, ap, ◌∙◌}
 use mathlib.Core.Bool.{Bool, true, false, not, false≢true}
 use mathlib.Core.List.{List, [], ◌∷◌, ◌++◌, append-nil, append_assoc}
-use borrow.Author.Tests.{eqb-true, eqb-false, not-true, not-false}
+use borrow.Author.Tests.{eqb-true, eqb-false, not-true}
 use lib.Dec.{eqb}
 use Rattle.octets.proofs.BoolLaws.{and_both}
 use Rattle.std.specs.Prelude.{Result, Ok, Err}
@@ -83,28 +83,21 @@ first_passed a b n h = none_above a b (first_none a n (eqb-true (first a).number
 pub never_accepted : (refusal : Refusal) → is_accepted (answer_for refusal) ≡ false
 never_accepted = elim [ Length ↦ refl | Damaged ↦ refl | NoRoom ↦ refl | BothPublic ↦ refl | AboveMoney i ↦ refl | NoAnchor ↦ refl | EqualNullifiers ↦ refl | Spent i row ↦ refl | OldOutOfRange i ↦ refl | PhiOutOfRange ↦ refl | PathAstray i ↦ refl | Unbalanced ↦ refl | WrongNullifier i ↦ refl | WrongAddress i ↦ refl | WrongTag i ↦ refl | WrongRho i ↦ refl | WrongCommitment i ↦ refl | PoolOutside ↦ refl ]
 
--- a function that asks one refusal after the other, with b for whether its answer a to the refusal g accepts: where it does not, it is the whole
--- answer, and where it does the rest decides
-module _ (g : List Rule) (gs : List (List Rule)) (a : Answer) (b : Bool) (e : a ≡ first g) (q : b ≡ is_accepted a) where
-  pub stops : not b ≡ true → a ≡ first (rules_in (g ∷ gs))
-  unfolding rules_in
-  stops h = e ∙ sym (first_refused g (rules_in gs) (ap is_accepted (sym e) ∙ sym q ∙ not-true b h))
-
-  pub goes_on : numbered g ≡ true → not b ≡ false → first (rules_in (g ∷ gs)) ≡ first (rules_in gs)
-  unfolding rules_in
-  goes_on n h = first_passed g (rules_in gs) n (ap is_accepted (sym e) ∙ sym q ∙ not-false b h)
-
--- the same where each refusal is asked with `?`: what it passes on is the whole answer, and where it passes nothing on the rest decides
+-- what `?` passes on, told as an answer
 pub passed_on : (refusal : Refusal) (asked : Result Unit Refusal) → IsErr asked × IsErrAnd asked (λ (r : Refusal). r ≡ refusal) → as_answer asked ≡ answer_for refusal
 passed_on refusal (Err r) h = ap answer_for h.1
 passed_on refusal (Ok u) h = absurd h.1
 
+-- a function that asks one refusal after the other, each with `?`: what it passes on is the whole answer, and where it passes nothing on the rest
+-- decides
 module _ (g : List Rule) (gs : List (List Rule)) where
+  pub decided_by : (a : Answer) → is_accepted a ≡ false → a ≡ first g → a ≡ first (rules_in (g ∷ gs))
+  unfolding rules_in
+  decided_by a n e = e ∙ sym (first_refused g (rules_in gs) (ap is_accepted (sym e) ∙ n))
+
   pub refused_by : (refusal : Refusal) (asked : Result Unit Refusal) → answer_for refusal ≡ first g → IsErr asked × IsErrAnd asked (λ (r : Refusal). r ≡ refusal)
       → as_answer asked ≡ first (rules_in (g ∷ gs))
-  unfolding rules_in
-  refused_by refusal asked e h =
-      passed_on refusal asked h ∙ e ∙ sym (first_refused g (rules_in gs) (ap is_accepted (sym e) ∙ never_accepted refusal))
+  refused_by refusal asked e h = passed_on refusal asked h ∙ decided_by (answer_for refusal) (never_accepted refusal) e
 
   pub passed_by : (a : Answer) → numbered g ≡ true → accepted ≡ first g → a ≡ first (rules_in gs) → a ≡ first (rules_in (g ∷ gs))
   unfolding rules_in
@@ -116,14 +109,6 @@ rows_append [] hs = refl
 rows_append (g ∷ gs) hs = ap (λ (l : List Rule). g ++ l) (rows_append gs hs) ∙ sym (append_assoc g (rules_in gs) (rules_in hs))
 
 -- the same for a function that asks a run of refusals at once
-module _ (gs hs : List (List Rule)) (a : Answer) (b : Bool) (e : a ≡ first (rules_in gs)) (q : b ≡ is_accepted a) where
-  pub run_stops : not b ≡ true → a ≡ first (rules_in (gs ++ hs))
-  run_stops h = rw (rows_append gs hs) (e ∙ sym (first_refused (rules_in gs) (rules_in hs) (ap is_accepted (sym e) ∙ sym q ∙ not-true b h)))
-
-  pub run_goes_on : numbered (rules_in gs) ≡ true → not b ≡ false → first (rules_in (gs ++ hs)) ≡ first (rules_in hs)
-  run_goes_on n h = rw (rows_append gs hs) (first_passed (rules_in gs) (rules_in hs) n (ap is_accepted (sym e) ∙ sym q ∙ not-false b h))
-
--- the same by `?`
 module _ (gs hs : List (List Rule)) where
   pub run_refused_by : (refusal : Refusal) (asked : Result Unit Refusal) → answer_for refusal ≡ first (rules_in gs)
       → IsErr asked × IsErrAnd asked (λ (r : Refusal). r ≡ refusal) → as_answer asked ≡ first (rules_in (gs ++ hs))

@@ -8,24 +8,22 @@ use Rattle.judge.proofs.answered.Goals as goal
 pub returns-then-not-has_length : goal.returns-then-not-has_length
 returns-then-not-has_length c =
     let a = c.args in
-    c.refused.ensures
-    ∙ length_decides a.case.now a.table.now a.roll.now (bare a.counts) (sym c.has_length.ensures ∙ not-true _ (ap not c.if-not-has_length.true))
+    length_decides a.case.now a.table.now a.roll.now (bare a.counts) (sym c.has_length.ensures ∙ not-true _ (ap not c.if-not-has_length.true))
 
-pub ask-front-requires : goal.ask-front-requires
-ask-front-requires c = sym c.has_length.ensures ∙ not-false _ (ap not c.if-not-has_length.false)
+pub ask-requires : goal.ask-requires
+ask-requires c = sym c.has_length.ensures ∙ not-false _ (ap not c.if-not-has_length.false)
 
-pub returns-then-not-is_accepted : goal.returns-then-not-is_accepted
-returns-then-not-is_accepted c =
+pub returns-in_err-ask : goal.returns-in_err-ask
+returns-in_err-ask c =
     let a = c.args in
-    front_decides a.case.now a.table.now a.roll.now (bare a.counts) _ _ c.ask-front.ensures c.is_accepted.ensures (ap not c.if-not-is_accepted.true)
+    front_decides a.case.now a.table.now a.roll.now (bare a.counts) _ _ c.from_residual.ensures c.in_err-ask.ensures
 
-pub returns-then-not-is_accepted-2 : goal.returns-then-not-is_accepted-2
-returns-then-not-is_accepted-2 c =
+pub returns-in_err-witness : goal.returns-in_err-witness
+returns-in_err-witness c =
     let a = c.args in
-    witness_decides a.case.now a.table.now a.roll.now (bare a.counts) _ _ c.ask-front.ensures c.is_accepted.ensures (ap not c.if-not-is_accepted.false) _ _ c.witness-behind.ensures c.is_accepted-2.ensures (ap not c.if-not-is_accepted-2.true)
+    witness_decides a.case.now a.table.now a.roll.now (bare a.counts) _ _ c.from_residual-in_err-witness.ensures c.in_ok-ask.ensures c.in_err-witness.ensures
 
 pub returns : goal.returns
 returns c =
     let a = c.args in
-    c.stays_within.ensures
-    ∙ pool_decides a.case.now a.table.now a.roll.now (bare a.counts) _ _ c.ask-front.ensures c.is_accepted.ensures (ap not c.if-not-is_accepted.false) _ _ c.witness-behind.ensures c.is_accepted-2.ensures (ap not c.if-not-is_accepted-2.false)
+    pool_decides a.case.now a.table.now a.roll.now (bare a.counts) _ c.in_ok-ask.ensures c.in_ok-witness.ensures c.stays_within.ensures

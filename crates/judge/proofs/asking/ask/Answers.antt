@@ -1,58 +1,83 @@
--- 2 and 3 are asked one by one and decide before the case's own answer is asked for. From there on the answer is the lower of the case's own and the ledger's, of which the middle is left.
-use mathlib.Core.Path.{◌≡◌, refl, sym, ap, ap₂, ◌∙◌}
-use mathlib.Core.List.{List, [], ◌∷◌}
+-- One refusal after the other in the order of the numbers; 1 was asked before. What is asked of the lent rows rests on 2, which was passed.
+use Prim.Native.Nat.{ℕ}
 use mathlib.Core.Bool.{true, not}
-use Rattle.refusals.specs.Rules.{Rule, accepted, first, rules_in, numbered, lower}
-use Rattle.refusals.proofs.RuleLaws.{stops, goes_on, one_fails}
-use Rattle.casefile.specs.Fields.{anchor_of, nullifier_of}
+use mathlib.Core.Path.{◌≡◌, refl, ap, ◌∙◌}
+use mathlib.Core.List.{List, [], ◌∷◌}
+use lib.ListN.{length}
+use Rattle.refusals.specs.declared.Answer.{Answer}
+use Rattle.refusals.specs.Rules.{Rule, rules_in, first, accepted, numbered}
+use Rattle.refusals.proofs.RuleLaws.{refused_by, passed_by, run_refused_by, run_passed_by, one_fails, last_group}
+use Rattle.casefile.specs.Fields.{has_length, anchor_of, nullifier_of}
 use Rattle.statement.specs.CaseRefusals.{no1, no4, no5, no7}
-use Rattle.ledger.specs.Ledgers.{no2, no3, no6, no8}
+use Rattle.ledger.specs.declared.Ledger.{Ledger}
+use Rattle.ledger.specs.Ledgers.{most_nullifiers, most_anchors, no2, no3, no6, no8}
+use Rattle.ledger.proofs.Soundness.{undamaged, within}
 use Rattle.ledgerbytes.specs.LedgerBytes.{bare}
-use Rattle.judge.specs.Judging.{front_refusals, middle_refusals}
-use Rattle.judge.proofs.Halves.{front_lower}
-use Rattle.judge.proofs.Weighing.{asked_sound, past_2, past_3}
+use Rattle.judge.specs.Judging.{front_refusals}
+use Rattle.judge.proofs.Weighing.{asked_sound}
 use Rattle.judge.proofs.asking.ask.Goals as goal
 
-pub returns-then-not-is_accepted : goal.returns-then-not-is_accepted
-unfolding front_refusals numbered no1
-returns-then-not-is_accepted c =
-    let rows2 : List Rule = no2 c.args.table.now c.args.roll.now (bare c.args.counts) in
-    let rows3 : List Rule = no3 c.args.table.now (bare c.args.counts) in
-    let from4 : List (List Rule) = let these = c.args.case.now in
-    let l = bare c.args.counts in
-    no4 these ∷ no5 these ∷ no6 c.args.roll.now l (anchor_of these) ∷ no7 these ∷ no8 c.args.table.now l (nullifier_of 1 these) (nullifier_of 2 these) ∷ [] in
-    let front : List (List Rule) = front_refusals c.args.case.now c.args.table.now c.args.roll.now (bare c.args.counts) in
-    let long : first (rules_in (front)) ≡ first (rules_in (rows2 ∷ rows3 ∷ from4)) = goes_on (no1 c.args.case.now) (rows2 ∷ rows3 ∷ from4) accepted true (one_fails _ 1 0 (ap not c.requires)) refl refl refl in
-    stops (rows2) (rows3 ∷ from4) _ _ c.sound-a2.ensures c.is_accepted.ensures (ap not c.if-not-is_accepted.true) ∙ sym (long)
+-- what is left decides, once 1 to 3 have passed, and once 4 and 5 have
+module _ (c t r : List ℕ) (l : Ledger) (h : has_length c ≡ true) (e2 : accepted ≡ first (no2 t r l)) where
+  past_2 : (gs : List (List Rule)) (a : Answer) → a ≡ first (rules_in gs) → a ≡ first (rules_in (no1 c ∷ no2 t r l ∷ gs))
+  unfolding numbered no1 no2
+  past_2 gs a e = passed_by _ _ _ refl (one_fails _ 1 0 (ap not h)) (passed_by _ _ _ refl e2 e)
 
-pub returns-then-not-is_accepted-2 : goal.returns-then-not-is_accepted-2
-unfolding front_refusals numbered no1
-returns-then-not-is_accepted-2 c =
-    let rows2 : List Rule = no2 c.args.table.now c.args.roll.now (bare c.args.counts) in
-    let rows3 : List Rule = no3 c.args.table.now (bare c.args.counts) in
-    let from4 : List (List Rule) = let these = c.args.case.now in
-    let l = bare c.args.counts in
-    no4 these ∷ no5 these ∷ no6 c.args.roll.now l (anchor_of these) ∷ no7 these ∷ no8 c.args.table.now l (nullifier_of 1 these) (nullifier_of 2 these) ∷ [] in
-    let front : List (List Rule) = front_refusals c.args.case.now c.args.table.now c.args.roll.now (bare c.args.counts) in
-    let long : first (rules_in (front)) ≡ first (rules_in (rows2 ∷ rows3 ∷ from4)) = goes_on (no1 c.args.case.now) (rows2 ∷ rows3 ∷ from4) accepted true (one_fails _ 1 0 (ap not c.requires)) refl refl refl in
-    let rest2 : (gs : List (List Rule)) → first (rules_in (rows2 ∷ gs)) ≡ first (rules_in gs) = λ gs. let a = c.args in
-    past_2 a.table.now a.roll.now (bare a.counts) _ _ c.sound-a2.ensures c.is_accepted.ensures (ap not c.if-not-is_accepted.false) gs in
-    stops (rows3) (from4) _ _ c.has_room-a3.ensures c.is_accepted-2.ensures (ap not c.if-not-is_accepted-2.true)
-    ∙ sym (long ∙ rest2 (rows3 ∷ from4))
+  past_3 : accepted ≡ first (no3 t l) → (gs : List (List Rule)) (a : Answer) → a ≡ first (rules_in gs) → a ≡ first (rules_in (no1 c ∷ no2 t r l ∷ no3 t l ∷ gs))
+  unfolding numbered no3
+  past_3 e3 gs a e = past_2 (no3 t l ∷ gs) a (passed_by _ _ _ refl e3 e)
 
-pub weigh_middle-requires : goal.weigh_middle-requires
-weigh_middle-requires c =
+  values_numbered : numbered (rules_in (no4 c ∷ no5 c ∷ [])) ≡ true
+  unfolding rules_in numbered no4 no5
+  values_numbered = refl
+
+  past_5 : accepted ≡ first (no3 t l) → accepted ≡ first (rules_in (no4 c ∷ no5 c ∷ [])) → (gs : List (List Rule)) (a : Answer) → a ≡ first (rules_in gs)
+      → a ≡ first (rules_in (no1 c ∷ no2 t r l ∷ no3 t l ∷ no4 c ∷ no5 c ∷ gs))
+  past_5 e3 e4 gs a e = past_3 e3 (no4 c ∷ no5 c ∷ gs) a (run_passed_by (no4 c ∷ no5 c ∷ []) gs a values_numbered e4 e)
+
+pub returns-in_err-sound : goal.returns-in_err-sound
+unfolding front_refusals numbered no1
+returns-in_err-sound c = passed_by _ _ _ refl (one_fails _ 1 0 (ap not c.requires)) (refused_by _ _ _ _ c.in_err-sound.ensures c.from_residual.ensures)
+
+pub returns-in_err-has_room : goal.returns-in_err-has_room
+unfolding front_refusals
+returns-in_err-has_room c = past_2 _ _ _ _ c.requires c.in_ok-sound.ensures _ _ (refused_by _ _ _ _ c.in_err-has_room.ensures c.from_residual-in_err-has_room.ensures)
+
+pub returns-in_err-public_values : goal.returns-in_err-public_values
+unfolding front_refusals
+returns-in_err-public_values c =
+    past_3 _ _ _ _ c.requires c.in_ok-sound.ensures c.in_ok-has_room.ensures _ _
+    (run_refused_by (no4 c.args.case.now ∷ no5 c.args.case.now ∷ []) _ _ _ c.in_err-public_values.ensures c.from_residual-in_err-public_values.ensures)
+
+pub is_anchored-requires : goal.is_anchored-requires
+is_anchored-requires c =
     let a = c.args in
-    asked_sound a.table.now a.roll.now (bare a.counts) _ _ c.sound-a2.ensures c.is_accepted.ensures (ap not c.if-not-is_accepted.false)
+    let s = undamaged a.table.now a.roll.now (bare a.counts) (asked_sound a.table.now a.roll.now (bare a.counts) c.in_ok-sound.ensures) in
+    within a.counts.anchors most_anchors (length a.roll.now) s.roll
+
+pub returns-in_err-is_anchored : goal.returns-in_err-is_anchored
+unfolding front_refusals
+returns-in_err-is_anchored c =
+    past_5 _ _ _ _ c.requires c.in_ok-sound.ensures c.in_ok-has_room.ensures c.in_ok-public_values.ensures _ _
+    (refused_by _ _ _ _ c.in_err-is_anchored.ensures c.from_residual-in_err-is_anchored.ensures)
+
+pub returns-in_err-distinct : goal.returns-in_err-distinct
+unfolding front_refusals numbered no6
+returns-in_err-distinct c =
+    past_5 _ _ _ _ c.requires c.in_ok-sound.ensures c.in_ok-has_room.ensures c.in_ok-public_values.ensures _ _ (passed_by _ _ _ refl c.in_ok-is_anchored.ensures
+    (refused_by _ _ _ _ c.in_err-distinct.ensures c.from_residual-in_err-distinct.ensures))
+
+pub are_unspent-requires : goal.are_unspent-requires
+are_unspent-requires c =
+    let a = c.args in
+    let s = undamaged a.table.now a.roll.now (bare a.counts) (asked_sound a.table.now a.roll.now (bare a.counts) c.in_ok-sound.ensures) in
+    record {
+      nullifiers_in_bounds = within a.counts.nullifiers most_nullifiers (length a.table.now) s.fits;
+      counts_value = s.rises;
+    }
 
 pub returns : goal.returns
+unfolding front_refusals numbered no6 no7
 returns c =
-    let rows2 : List Rule = no2 c.args.table.now c.args.roll.now (bare c.args.counts) in
-    let rows3 : List Rule = no3 c.args.table.now (bare c.args.counts) in
-    let middle : List (List Rule) = middle_refusals c.args.case.now c.args.table.now c.args.roll.now (bare c.args.counts) in
-    let rest3 : (gs : List (List Rule)) → first (rules_in (rows2 ∷ rows3 ∷ gs)) ≡ first (rules_in gs) = λ gs. let a = c.args in
-    past_3 a.table.now a.roll.now (bare a.counts) _ _ c.sound-a2.ensures c.is_accepted.ensures (ap not c.if-not-is_accepted.false) _ _ c.has_room-a3.ensures c.is_accepted-2.ensures (ap not c.if-not-is_accepted-2.false) gs in
-    let a = c.args in
-    c.weigh_middle.ensures
-    ∙ ap₂ lower c.public_part.ensures (sym (rest3 (middle)))
-    ∙ sym (front_lower a.case.now a.table.now a.roll.now (bare a.counts))
+    past_5 _ _ _ _ c.requires c.in_ok-sound.ensures c.in_ok-has_room.ensures c.in_ok-public_values.ensures _ _ (passed_by _ _ _ refl c.in_ok-is_anchored.ensures
+    (passed_by _ _ _ refl c.in_ok-distinct.ensures (c.are_unspent.ensures ∙ last_group _)))

@@ -12,18 +12,18 @@ unfolding no3
 returns-then-room-lt2 c =
     let a = c.args in
     let h : room_in most_nullifiers (length a.table.now) < a.counts.nullifiers + 2 = omega arith in
-    c.refused.ensures ∙ one_holds _ 3 0 (lt-ltb _ _ h)
+    one_holds _ 3 0 (lt-ltb _ _ h)
 
 pub returns-then-room-counts : goal.returns-then-room-counts
 unfolding no3
 returns-then-room-counts c =
     let a = c.args in
     let h : room_in most_nullifiers (length a.table.now) < a.counts.nullifiers + 2 = omega arith in
-    c.refused-then-room-counts.ensures ∙ one_holds _ 3 0 (lt-ltb _ _ h)
+    one_holds _ 3 0 (lt-ltb _ _ h)
 
 pub returns : goal.returns
 unfolding no3
 returns c =
     let a = c.args in
     let h : a.counts.nullifiers + 2 ≤ room_in most_nullifiers (length a.table.now) = omega arith in
-    c.accepted.ensures ∙ one_fails _ 3 0 (le-ltb _ _ h)
+    one_fails _ 3 0 (le-ltb _ _ h)

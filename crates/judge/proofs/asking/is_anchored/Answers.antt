@@ -15,7 +15,7 @@ returns-then-stands_on c =
     let found : let a = c.args in
     c.stands_on.result ≡ among (anchor_of a.case.now) (rows_of a.counts.anchors a.roll.now) = let a = c.args in
     c.stands_on.ensures ∙ ap (λ (x : List ℕ). among x (rows_of a.counts.anchors a.roll.now)) c.anchor-anchor.ensures in
-    c.accepted.ensures ∙ one_fails _ 6 0 (ap not (sym (found) ∙ c.if-stands_on.true))
+    one_fails _ 6 0 (ap not (sym (found) ∙ c.if-stands_on.true))
 
 pub returns-else-stands_on : goal.returns-else-stands_on
 unfolding no6 anchor_rows
@@ -23,4 +23,4 @@ returns-else-stands_on c =
     let found : let a = c.args in
     c.stands_on.result ≡ among (anchor_of a.case.now) (rows_of a.counts.anchors a.roll.now) = let a = c.args in
     c.stands_on.ensures ∙ ap (λ (x : List ℕ). among x (rows_of a.counts.anchors a.roll.now)) c.anchor-anchor.ensures in
-    c.refused.ensures ∙ one_holds _ 6 0 (ap not (sym (found) ∙ c.if-stands_on.false))
+    one_holds _ 6 0 (ap not (sym (found) ∙ c.if-stands_on.false))

@@ -5,8 +5,8 @@ use Rattle.judge.proofs.asking.sound.Goals as goal
 
 pub returns-then-is_damaged : goal.returns-then-is_damaged
 unfolding no2
-returns-then-is_damaged c = c.refused.ensures ∙ one_holds _ 2 0 (sym c.is_damaged.ensures ∙ c.if-is_damaged.true)
+returns-then-is_damaged c = one_holds _ 2 0 (sym c.is_damaged.ensures ∙ c.if-is_damaged.true)
 
 pub returns-else-is_damaged : goal.returns-else-is_damaged
 unfolding no2
-returns-else-is_damaged c = c.accepted.ensures ∙ one_fails _ 2 0 (sym c.is_damaged.ensures ∙ c.if-is_damaged.false)
+returns-else-is_damaged c = one_fails _ 2 0 (sym c.is_damaged.ensures ∙ c.if-is_damaged.false)

@@ -11,7 +11,7 @@ returns-then-is_outside c =
     let asked : let a = c.args in
     c.is_outside.result ≡ outside a.counts.pool.0 (vpub_old_of a.case.now) (vpub_new_of a.case.now) = let a = c.args in
     c.is_outside.ensures ∙ ap₂ (λ (x y : ℕ). outside a.counts.pool.0 x y) c.vpub_old-old.ensures c.vpub_new-new.ensures in
-    c.refused.ensures ∙ one_holds _ 17 0 (sym (asked) ∙ c.if-is_outside.true)
+    one_holds _ 17 0 (sym (asked) ∙ c.if-is_outside.true)
 
 pub returns-else-is_outside : goal.returns-else-is_outside
 unfolding no17
@@ -19,4 +19,4 @@ returns-else-is_outside c =
     let asked : let a = c.args in
     c.is_outside.result ≡ outside a.counts.pool.0 (vpub_old_of a.case.now) (vpub_new_of a.case.now) = let a = c.args in
     c.is_outside.ensures ∙ ap₂ (λ (x y : ℕ). outside a.counts.pool.0 x y) c.vpub_old-old.ensures c.vpub_new-new.ensures in
-    c.accepted.ensures ∙ one_fails _ 17 0 (sym (asked) ∙ c.if-is_outside.false)
+    one_fails _ 17 0 (sym (asked) ∙ c.if-is_outside.false)

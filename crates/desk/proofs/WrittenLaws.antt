@@ -58,6 +58,3 @@ passed_lengths d n h =
 -- what is written where a test holds, and kept where it does not
 pub is_kept : (t : Bool) (x y : List ℕ) → t ≡ false → y ≡ cond t x y
 is_kept t x y h = rw h
-
-pub is_written : (t : Bool) (x y : List ℕ) → t ≡ true → x ≡ cond t x y
-is_written t x y h = rw h

@@ -6,41 +6,33 @@
 ghost use Rattle.std.specs.Prelude.{◌≡◌, cond, length};
 ghost use Rattle.units.specs.Pairs.{number_of};
 ghost use Rattle.refusals.specs.Rules.{first, rules_in, is_accepted};
+ghost use Rattle.refusals.specs.Reasons.{as_answer};
 ghost use Rattle.statement.specs.CaseRefusals.{h_sig_of};
 ghost use Rattle.desk.specs.Drafts.{with_old, with_old_notes, with_rho, with_new, with_new_notes, written, lengths1, notes_refusals, desk_answer, buffer_after};
 
-use refusals::Answer;
+use refusals::Refusal;
 use units::Which;
 
 // 1
-fn lengths(draft: &[u8], buffer: &[u8]) -> Answer
-    ensures { result ≡ first (lengths1 draft.now (length buffer.now)) }
+fn lengths(draft: &[u8], buffer: &[u8]) -> Result<(), Refusal>
+    ensures { as_answer result ≡ first (lengths1 draft.now (length buffer.now)) }
 {
     if !casefile::has_length(draft) {
-        return Answer::refused(1, 0);
+        return Err(Refusal::Length);
     }
     if buffer.len() != draft.len() {
-        return Answer::refused(1, 0);
+        return Err(Refusal::Length);
     }
-    Answer::accepted()
+    Ok(())
 }
 
 // 7, 9, 10 and 11, of a draft and of the same file with its old notes worked out.
-fn notes(draft: &[u8], file: &[u8]) -> Answer
-    ensures { result ≡ first (rules_in (notes_refusals draft.now file.now)) }
+fn notes(draft: &[u8], file: &[u8]) -> Result<(), Refusal>
+    ensures { as_answer result ≡ first (rules_in (notes_refusals draft.now file.now)) }
 {
-    let a7 = statement::distinct(file);
-    if !a7.is_accepted() {
-        return a7;
-    }
-    let a9 = statement::ranges(draft);
-    if !a9.is_accepted() {
-        return a9;
-    }
-    let a10 = statement::paths(file);
-    if !a10.is_accepted() {
-        return a10;
-    }
+    statement::distinct(file)?;
+    statement::ranges(draft)?;
+    statement::paths(file)?;
     statement::balance(draft)
 }
 
@@ -97,35 +89,26 @@ fn work_out_new_notes(file: &mut [u8])
 
 // 7 to 11 are asked in a file apart, as long as the draft, so that a refusal leaves the buffer as it was. What the new
 // notes are is worked out only then.
-fn write_checked(draft: &[u8], file: &mut [u8], buffer: &mut [u8]) -> Answer
+fn write_checked(draft: &[u8], file: &mut [u8], buffer: &mut [u8]) -> Result<(), Refusal>
     requires { (length file.old ≡ length draft.now) × (length buffer.old ≡ length draft.now) }
-    ensures value { result ≡ first (rules_in (notes_refusals draft.now (with_old_notes draft.now))) }
-    ensures buffer_after { buffer.new ≡ cond (is_accepted result) (written draft.now) buffer.old }
+    ensures value { as_answer result ≡ first (rules_in (notes_refusals draft.now (with_old_notes draft.now))) }
+    ensures buffer_after { buffer.new ≡ cond (is_accepted (as_answer result)) (written draft.now) buffer.old }
 {
     octets::copy_in(&mut *file, 0, draft);
     work_out_old_notes(&mut *file);
-    let a = notes(draft, file);
-    if !a.is_accepted() {
-        return a;
-    }
+    notes(draft, file)?;
     work_out_new_notes(&mut *file);
     octets::copy_in(buffer, 0, file);
-    a
+    Ok(())
 }
 
 // Writes the whole case into the buffer. On refusal the buffer keeps every byte.
-pub fn write(draft: &[u8], buffer: &mut [u8]) -> Answer
-    ensures value { result ≡ desk_answer draft.now (length buffer.old) }
+pub fn write(draft: &[u8], buffer: &mut [u8]) -> Result<(), Refusal>
+    ensures value { as_answer result ≡ desk_answer draft.now (length buffer.old) }
     ensures buffer_after { buffer.new ≡ buffer_after draft.now buffer.old }
 {
-    let a1 = lengths(draft, buffer);
-    if !a1.is_accepted() {
-        return a1;
-    }
-    let a4 = statement::public_values(draft);
-    if !a4.is_accepted() {
-        return a4;
-    }
+    lengths(draft, buffer)?;
+    statement::public_values(draft)?;
     let n = draft.len();
     let mut room = [0u8; 4210];
     write_checked(draft, &mut room[..n], buffer)

@@ -11,7 +11,7 @@ use lib.ListN.{length, get_or}
 use Rattle.octets.proofs.PartLaws.{pasted_length}
 use Rattle.refusals.specs.declared.Answer.{Answer}
 use Rattle.refusals.specs.Rules.{accepted, first, rules_in, numbered}
-use Rattle.refusals.proofs.RuleLaws.{by_test, one_fails, goes_on}
+use Rattle.refusals.proofs.RuleLaws.{by_test, one_fails, passed_by}
 use Rattle.refusals.proofs.TwoTables.{all_up_to, up_to_first}
 use Rattle.refusals.proofs.AnswerRows.{without_rows, no_row}
 use Rattle.units.specs.declared.Which.{Which}
@@ -142,7 +142,7 @@ own_no_row c = no_row (rules_in (no4 c ∷ no5 c ∷ no7 c ∷ witness_refusals 
 -- which is what is asked of a case of a case's length
 pub own_whole : (c : List ℕ) → has_length c ≡ true → first (rules_in (no4 c ∷ no5 c ∷ no7 c ∷ witness_refusals c)) ≡ first (case_refusals c)
 unfolding case_refusals numbered no1
-own_whole c h = sym (goes_on (no1 c) (no4 c ∷ no5 c ∷ no7 c ∷ witness_refusals c) accepted true (one_fails (not (has_length c)) 1 0 (ap not h)) refl refl refl)
+own_whole c h = passed_by (no1 c) (no4 c ∷ no5 c ∷ no7 c ∷ witness_refusals c) _ refl (one_fails (not (has_length c)) 1 0 (ap not h)) refl
 
 -- THE LEDGER ASKED: the answer held is one that a case can get, and so is the one that is given
 pub held_number : (b : List ℕ) → (answer_in b).number ≤ 17

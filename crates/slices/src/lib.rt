@@ -6,13 +6,14 @@
 ghost use Rattle.std.specs.Prelude.{◌≡◌, ◌+◌, ◌/◌, ◌^◌, ◌<◌};
 ghost use Rattle.units.specs.Pairs.{number_of};
 ghost use Rattle.refusals.specs.Rules.{first, rules_in};
+ghost use Rattle.refusals.specs.Reasons.{as_answer};
 ghost use Rattle.ledgerbytes.specs.LedgerBytes.{ledger_of};
 ghost use Rattle.judge.specs.Kept.{kept_after};
 ghost use Rattle.judge.specs.Settling.{ledger_after_settling, table_after_settling};
 ghost use Rattle.slices.specs.Records.{steps_in, case_in, holds_case, node_in, node_at, answer_in, with_steps, with_answer, edition_of, with_case};
 ghost use Rattle.slices.specs.Steps.{not_yet, parent_on, start_in, climbed_in, strays_in, held10, alone_refusals, checked_in, settled_by, settled_in, step_answer, record_after_step, table_after_step, kept_after_step, begin_answer, record_after_begin};
 
-use refusals::Answer;
+use refusals::{Answer, Refusal};
 use units::{Position, Row, Which};
 
 // How many bytes a record has, and where its case begins.
@@ -79,7 +80,7 @@ fn answer_in(judgement: &[u8]) -> Answer
 {
     let number = octets::byte_from(judgement, 2, 0);
     if number > 17 {
-        return Answer::refused(1, 0);
+        return Answer::from(Refusal::Length);
     }
     let place = octets::byte_from(judgement, 3, 0);
     let row = octets::le16(judgement, 4) as usize;
@@ -156,39 +157,27 @@ fn strays(judgement: &[u8], i: Which) -> bool
 }
 
 // 10, by the two path ends held.
-fn ends(judgement: &[u8]) -> Answer
-    ensures { result ≡ first (held10 judgement.now) }
+fn ends(judgement: &[u8]) -> Result<(), Refusal>
+    ensures { as_answer result ≡ first (held10 judgement.now) }
 {
     if strays(judgement, Which::First) {
-        return Answer::refused(10, 1);
+        return Err(Refusal::PathAstray(Which::First));
     }
     if strays(judgement, Which::Second) {
-        return Answer::refused(10, 2);
+        return Err(Refusal::PathAstray(Which::Second));
     }
-    Answer::accepted()
+    Ok(())
 }
 
 // 4, 5, 7 and 9 to 16 of the case, with 10 by the two path ends held.
-fn alone(judgement: &[u8]) -> Answer
-    ensures { result ≡ first (rules_in (alone_refusals judgement.now)) }
+fn alone(judgement: &[u8]) -> Result<(), Refusal>
+    ensures { as_answer result ≡ first (rules_in (alone_refusals judgement.now)) }
 {
     let case = case_in(judgement);
-    let a4 = statement::public_values(case);
-    if !a4.is_accepted() {
-        return a4;
-    }
-    let a7 = statement::distinct(case);
-    if !a7.is_accepted() {
-        return a7;
-    }
-    let a9 = statement::ranges(case);
-    if !a9.is_accepted() {
-        return a9;
-    }
-    let a10 = ends(judgement);
-    if !a10.is_accepted() {
-        return a10;
-    }
+    statement::public_values(case)?;
+    statement::distinct(case)?;
+    statement::ranges(case)?;
+    ends(judgement)?;
     statement::claims(case)
 }
 
@@ -197,7 +186,7 @@ fn check(judgement: &mut [u8]) -> Answer
     ensures value { result ≡ not_yet 59 }
     ensures judgement_after { judgement.new ≡ checked_in judgement.old }
 {
-    let found = alone(&*judgement);
+    let found = Answer::from(alone(&*judgement));
     put_answer(&mut *judgement, found);
     put_steps(judgement, 59);
     not_yet(59)
@@ -225,7 +214,7 @@ pub fn step(judgement: &mut [u8], table: &mut [u8], roll: &[u8], kept: &mut [u8]
     ensures kept_after { kept.new ≡ kept_after_step judgement.old table.old roll.now kept.old }
 {
     if !holds_case(&*judgement) {
-        return Answer::refused(1, 0);
+        return Answer::from(Refusal::Length);
     }
     let steps = steps_in(&*judgement);
     if steps < 29 {
@@ -265,12 +254,12 @@ pub fn begin(case: &[u8], judgement: &mut [u8]) -> Answer
     ensures judgement_after { judgement.new ≡ record_after_begin case.now judgement.old }
 {
     if judgement.len() != JUDGEMENT_LENGTH {
-        return Answer::refused(1, 0);
+        return Answer::from(Refusal::Length);
     }
     if !casefile::has_length(case) {
         let head = [1, 0, 1, 0, 0, 0];
         octets::copy_in(judgement, 0, &head);
-        return Answer::refused(1, 0);
+        return Answer::from(Refusal::Length);
     }
     take_in(&mut *judgement, case);
     climb(judgement, Which::First, 0)

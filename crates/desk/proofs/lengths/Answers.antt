@@ -13,7 +13,7 @@ unfolding lengths1 one_length
 returns-then-not-has_length c =
     let a = c.args in
     let e : has_length a.draft.now ≡ false = sym c.has_length.ensures ∙ not-true _ (ap not c.if-not-has_length.true) in
-    c.refused.ensures ∙ one_holds (not (one_length a.draft.now (length a.buffer.now))) 1 0 (rw e)
+    one_holds (not (one_length a.draft.now (length a.buffer.now))) 1 0 (rw e)
 
 pub returns-then-buffer-draft : goal.returns-then-buffer-draft
 unfolding lengths1 one_length
@@ -21,7 +21,7 @@ returns-then-buffer-draft c =
     let a = c.args in
     let e : has_length a.draft.now ≡ true = sym c.has_length.ensures ∙ not-false _ (ap not c.if-not-has_length.false) in
     let f : eqb (length a.buffer.now) (length a.draft.now) ≡ false = ne_eqb _ _ c.if-buffer-draft.true in
-    c.refused-then-buffer-draft.ensures ∙ one_holds (not (one_length a.draft.now (length a.buffer.now))) 1 0 (rw (e, f))
+    one_holds (not (one_length a.draft.now (length a.buffer.now))) 1 0 (rw (e, f))
 
 pub returns : goal.returns
 unfolding lengths1 one_length
@@ -29,4 +29,4 @@ returns c =
     let a = c.args in
     let e : has_length a.draft.now ≡ true = sym c.has_length.ensures ∙ not-false _ (ap not c.if-not-has_length.false) in
     let f : eqb (length a.buffer.now) (length a.draft.now) ≡ true = eq-eqb _ _ c.if-buffer-draft.false in
-    c.accepted.ensures ∙ one_fails (not (one_length a.draft.now (length a.buffer.now))) 1 0 (rw (e, f))
+    one_fails (not (one_length a.draft.now (length a.buffer.now))) 1 0 (rw (e, f))

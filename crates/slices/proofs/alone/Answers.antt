@@ -1,10 +1,11 @@
--- The refusals are asked one after the other, 4 and 5 at once; each return is that of the first that applies.
-use mathlib.Core.Bool.{not}
-use mathlib.Core.Path.{◌≡◌, refl, sym, ap, ◌∙◌}
+-- The refusals are asked one after the other, 4 and 5 at once, each of the case that the record holds; each return is that of the first that applies.
+use mathlib.Core.Bool.{true}
+use mathlib.Core.Path.{◌≡◌, refl, ap, ◌∙◌}
 use mathlib.Core.List.{List, [], ◌∷◌}
 use Prim.Native.Nat.{ℕ}
-use Rattle.refusals.specs.Rules.{Rule, first, rules_in, numbered}
-use Rattle.refusals.proofs.RuleLaws.{stops, goes_on, run_stops, run_goes_on}
+use Rattle.refusals.specs.declared.Answer.{Answer}
+use Rattle.refusals.specs.Rules.{Rule, first, rules_in, accepted, numbered}
+use Rattle.refusals.proofs.RuleLaws.{refused_by, passed_by, run_refused_by, run_passed_by}
 use Rattle.statement.specs.CaseRefusals.{no4, no5, no7, no9, claim_refusals}
 use Rattle.slices.specs.Records.{case_in}
 use Rattle.slices.specs.Steps.{held10, alone_refusals}
@@ -13,77 +14,61 @@ use Rattle.slices.proofs.alone.Goals as goal
 abbrev public : List ℕ → List (List Rule)
 public x = no4 x ∷ no5 x ∷ []
 
-abbrev from10 : List ℕ → List (List Rule)
-from10 b = held10 b ∷ claim_refusals (case_in b)
+public_numbered : (x : List ℕ) → numbered (rules_in (public x)) ≡ true
+unfolding rules_in numbered no4 no5
+public_numbered x = refl
 
-abbrev from9 : List ℕ → List (List Rule)
-from9 b = no9 (case_in b) ∷ from10 b
+-- what is asked of the part of the record is asked of the case
+asked : (rows : List ℕ → List Rule) (a : Answer) (part b : List ℕ) → part ≡ case_in b → a ≡ first (rows part) → a ≡ first (rows (case_in b))
+asked rows a part b q e = e ∙ ap (λ (x : List ℕ). first (rows x)) q
 
-abbrev from7 : List ℕ → List (List Rule)
-from7 b = no7 (case_in b) ∷ from9 b
+abbrev values : List ℕ → List Rule
+values x = rules_in (public x)
 
-pub returns-then-not-is_accepted : goal.returns-then-not-is_accepted
+abbrev claims : List ℕ → List Rule
+claims x = rules_in (claim_refusals x)
+
+-- what is left decides, once 4 and 5 have passed
+past_5 : (b : List ℕ) (part : List ℕ) (gs : List (List Rule)) (a : Answer) → part ≡ case_in b → accepted ≡ first (rules_in (public part)) → a ≡ first (rules_in gs)
+    → a ≡ first (rules_in (no4 (case_in b) ∷ no5 (case_in b) ∷ gs))
+past_5 b part gs a q e h = run_passed_by (public (case_in b)) gs a (public_numbered (case_in b)) (asked values accepted part b q e) h
+
+pub returns-in_err-public_values : goal.returns-in_err-public_values
 unfolding alone_refusals
-returns-then-not-is_accepted c =
-    let B : List ℕ = c.args.judgement.now in
-    let asked4 : c.public_values-a4.result ≡ first (rules_in (public (case_in (B)))) = c.public_values-a4.ensures ∙ ap (λ (x : List ℕ). first (rules_in (public x))) c.case_in-case.ensures in
-    let b = B in
-    run_stops (public (case_in b)) (from7 b) _ _ (asked4) c.is_accepted.ensures (ap not c.if-not-is_accepted.true)
+returns-in_err-public_values c =
+    let b = c.args.judgement.now in
+    run_refused_by (public (case_in b)) (no7 (case_in b) ∷ no9 (case_in b) ∷ held10 b ∷ claim_refusals (case_in b)) _ _
+    (asked values _ _ b c.case_in-case.ensures c.in_err-public_values.ensures) c.from_residual.ensures
 
-pub returns-then-not-is_accepted-2 : goal.returns-then-not-is_accepted-2
-unfolding alone_refusals numbered rules_in no4 no5
-returns-then-not-is_accepted-2 c =
-    let B : List ℕ = c.args.judgement.now in
-    let asked4 : c.public_values-a4.result ≡ first (rules_in (public (case_in (B)))) = c.public_values-a4.ensures ∙ ap (λ (x : List ℕ). first (rules_in (public x))) c.case_in-case.ensures in
-    let rest4 : let b = B in first (rules_in (alone_refusals b)) ≡ first (rules_in (from7 b)) = let b = B in
-    run_goes_on (public (case_in b)) (from7 b) _ _ (asked4) c.is_accepted.ensures refl (ap not c.if-not-is_accepted.false) in
-    let asked7 : c.distinct-a7.result ≡ first (no7 (case_in (B))) = c.distinct-a7.ensures ∙ ap (λ (x : List ℕ). first (no7 x)) c.case_in-case.ensures in
-    let b = B in
-    stops (no7 (case_in b)) (from9 b) _ _ (asked7) c.is_accepted-2.ensures (ap not c.if-not-is_accepted-2.true) ∙ sym (rest4)
+pub returns-in_err-distinct : goal.returns-in_err-distinct
+unfolding alone_refusals
+returns-in_err-distinct c =
+    let b = c.args.judgement.now in
+    past_5 b _ _ _ c.case_in-case.ensures c.in_ok-public_values.ensures
+    (refused_by _ _ _ _ (asked no7 _ _ b c.case_in-case.ensures c.in_err-distinct.ensures) c.from_residual-in_err-distinct.ensures)
 
-pub returns-then-not-is_accepted-3 : goal.returns-then-not-is_accepted-3
-unfolding alone_refusals numbered rules_in no4 no5 no7
-returns-then-not-is_accepted-3 c =
-    let B : List ℕ = c.args.judgement.now in
-    let asked4 : c.public_values-a4.result ≡ first (rules_in (public (case_in (B)))) = c.public_values-a4.ensures ∙ ap (λ (x : List ℕ). first (rules_in (public x))) c.case_in-case.ensures in
-    let rest4 : let b = B in first (rules_in (alone_refusals b)) ≡ first (rules_in (from7 b)) = let b = B in
-    run_goes_on (public (case_in b)) (from7 b) _ _ (asked4) c.is_accepted.ensures refl (ap not c.if-not-is_accepted.false) in
-    let asked7 : c.distinct-a7.result ≡ first (no7 (case_in (B))) = c.distinct-a7.ensures ∙ ap (λ (x : List ℕ). first (no7 x)) c.case_in-case.ensures in
-    let rest7 : let b = B in first (rules_in (alone_refusals b)) ≡ first (rules_in (from9 b)) = let b = B in
-    rest4 ∙ goes_on (no7 (case_in b)) (from9 b) _ _ (asked7) c.is_accepted-2.ensures refl (ap not c.if-not-is_accepted-2.false) in
-    let asked9 : c.ranges-a9.result ≡ first (no9 (case_in (B))) = c.ranges-a9.ensures ∙ ap (λ (x : List ℕ). first (no9 x)) c.case_in-case.ensures in
-    let b = B in
-    stops (no9 (case_in b)) (from10 b) _ _ (asked9) c.is_accepted-3.ensures (ap not c.if-not-is_accepted-3.true) ∙ sym (rest7)
+pub returns-in_err-ranges : goal.returns-in_err-ranges
+unfolding alone_refusals numbered no7
+returns-in_err-ranges c =
+    let b = c.args.judgement.now in
+    past_5 b _ _ _ c.case_in-case.ensures c.in_ok-public_values.ensures
+    (passed_by _ _ _ refl (asked no7 _ _ b c.case_in-case.ensures c.in_ok-distinct.ensures)
+    (refused_by _ _ _ _ (asked no9 _ _ b c.case_in-case.ensures c.in_err-ranges.ensures) c.from_residual-in_err-ranges.ensures))
 
-pub returns-then-not-is_accepted-4 : goal.returns-then-not-is_accepted-4
-unfolding alone_refusals numbered rules_in no4 no5 no7 no9
-returns-then-not-is_accepted-4 c =
-    let B : List ℕ = c.args.judgement.now in
-    let asked4 : c.public_values-a4.result ≡ first (rules_in (public (case_in (B)))) = c.public_values-a4.ensures ∙ ap (λ (x : List ℕ). first (rules_in (public x))) c.case_in-case.ensures in
-    let rest4 : let b = B in first (rules_in (alone_refusals b)) ≡ first (rules_in (from7 b)) = let b = B in
-    run_goes_on (public (case_in b)) (from7 b) _ _ (asked4) c.is_accepted.ensures refl (ap not c.if-not-is_accepted.false) in
-    let asked7 : c.distinct-a7.result ≡ first (no7 (case_in (B))) = c.distinct-a7.ensures ∙ ap (λ (x : List ℕ). first (no7 x)) c.case_in-case.ensures in
-    let rest7 : let b = B in first (rules_in (alone_refusals b)) ≡ first (rules_in (from9 b)) = let b = B in
-    rest4 ∙ goes_on (no7 (case_in b)) (from9 b) _ _ (asked7) c.is_accepted-2.ensures refl (ap not c.if-not-is_accepted-2.false) in
-    let asked9 : c.ranges-a9.result ≡ first (no9 (case_in (B))) = c.ranges-a9.ensures ∙ ap (λ (x : List ℕ). first (no9 x)) c.case_in-case.ensures in
-    let rest9 : let b = B in first (rules_in (alone_refusals b)) ≡ first (rules_in (from10 b)) = let b = B in
-    rest7 ∙ goes_on (no9 (case_in b)) (from10 b) _ _ (asked9) c.is_accepted-3.ensures refl (ap not c.if-not-is_accepted-3.false) in
-    let b = B in
-    stops (held10 b) (claim_refusals (case_in b)) _ _ c.ends-a10.ensures c.is_accepted-4.ensures (ap not c.if-not-is_accepted-4.true) ∙ sym (rest9)
+pub returns-in_err-ends : goal.returns-in_err-ends
+unfolding alone_refusals numbered no7 no9
+returns-in_err-ends c =
+    let b = c.args.judgement.now in
+    past_5 b _ _ _ c.case_in-case.ensures c.in_ok-public_values.ensures
+    (passed_by _ _ _ refl (asked no7 _ _ b c.case_in-case.ensures c.in_ok-distinct.ensures)
+    (passed_by _ _ _ refl (asked no9 _ _ b c.case_in-case.ensures c.in_ok-ranges.ensures)
+    (refused_by _ _ _ _ c.in_err-ends.ensures c.from_residual-in_err-ends.ensures)))
 
 pub returns : goal.returns
-unfolding numbered held10 alone_refusals rules_in no4 no5 no7 no9
+unfolding alone_refusals numbered no7 no9 held10
 returns c =
-    let B : List ℕ = c.args.judgement.now in
-    let asked4 : c.public_values-a4.result ≡ first (rules_in (public (case_in (B)))) = c.public_values-a4.ensures ∙ ap (λ (x : List ℕ). first (rules_in (public x))) c.case_in-case.ensures in
-    let rest4 : let b = B in first (rules_in (alone_refusals b)) ≡ first (rules_in (from7 b)) = let b = B in
-    run_goes_on (public (case_in b)) (from7 b) _ _ (asked4) c.is_accepted.ensures refl (ap not c.if-not-is_accepted.false) in
-    let asked7 : c.distinct-a7.result ≡ first (no7 (case_in (B))) = c.distinct-a7.ensures ∙ ap (λ (x : List ℕ). first (no7 x)) c.case_in-case.ensures in
-    let rest7 : let b = B in first (rules_in (alone_refusals b)) ≡ first (rules_in (from9 b)) = let b = B in
-    rest4 ∙ goes_on (no7 (case_in b)) (from9 b) _ _ (asked7) c.is_accepted-2.ensures refl (ap not c.if-not-is_accepted-2.false) in
-    let asked9 : c.ranges-a9.result ≡ first (no9 (case_in (B))) = c.ranges-a9.ensures ∙ ap (λ (x : List ℕ). first (no9 x)) c.case_in-case.ensures in
-    let rest9 : let b = B in first (rules_in (alone_refusals b)) ≡ first (rules_in (from10 b)) = let b = B in
-    rest7 ∙ goes_on (no9 (case_in b)) (from10 b) _ _ (asked9) c.is_accepted-3.ensures refl (ap not c.if-not-is_accepted-3.false) in
-    let b = B in
-    c.claims.ensures ∙ ap (λ (x : List ℕ). first (rules_in (claim_refusals x))) c.case_in-case.ensures
-    ∙ sym (rest9 ∙ goes_on (held10 b) (claim_refusals (case_in b)) _ _ c.ends-a10.ensures c.is_accepted-4.ensures refl (ap not c.if-not-is_accepted-4.false))
+    let b = c.args.judgement.now in
+    past_5 b _ _ _ c.case_in-case.ensures c.in_ok-public_values.ensures
+    (passed_by _ _ _ refl (asked no7 _ _ b c.case_in-case.ensures c.in_ok-distinct.ensures)
+    (passed_by _ _ _ refl (asked no9 _ _ b c.case_in-case.ensures c.in_ok-ranges.ensures)
+    (passed_by _ _ _ refl c.in_ok-ends.ensures (asked claims _ _ b c.case_in-case.ensures c.claims.ensures))))

@@ -6,7 +6,7 @@ use Rattle.slices.proofs.answer_in.Goals as goal
 
 pub returns-then-number-gt17 : goal.returns-then-number-gt17
 unfolding answer_in
-returns-then-number-gt17 c = rw (sym c.byte_from-number.ensures, lt-leb c.byte_from-number.result 17 c.if-number-gt17.true) c.refused.ensures
+returns-then-number-gt17 c = rw (sym c.byte_from-number.ensures, lt-leb c.byte_from-number.result 17 c.if-number-gt17.true) c.from.ensures
 
 pub returns : goal.returns
 unfolding answer_in

@@ -16,7 +16,7 @@ unfolding begin_answer record_after_begin
 returns-then-judgement-ne-JUDGEMENT_LENGTH c =
     let e = ne_eqb (length c.args.judgement.now) judgement_length c.if-judgement-ne-JUDGEMENT_LENGTH.true in
     record {
-      value = rw e c.refused.ensures;
+      value = rw e c.from.ensures;
       judgement_after = rw e;
     }
 
@@ -26,7 +26,7 @@ returns-then-not-has_length c =
     let long = eq-eqb (length c.args.judgement.now) judgement_length (omega (arith, c.if-judgement-ne-JUDGEMENT_LENGTH.false)) in
     let no = sym c.has_length.ensures ∙ not-true _ (ap not c.if-not-has_length.true) in
     record {
-      value = rw (long, no) c.refused-then-not-has_length.ensures;
+      value = rw (long, no) c.from-then-not-has_length.ensures;
       judgement_after = rw (long, no) c.copy_in.ensures.dst_after;
     }
 

@@ -7,16 +7,16 @@ pub returns-then-strays : goal.returns-then-strays
 unfolding held10
 returns-then-strays c =
     let b = c.args.judgement.now in
-    c.refused.ensures ∙ each_first (strays_in b) 10 (sym c.strays.ensures ∙ c.if-strays.true)
+    each_first (strays_in b) 10 (sym c.strays.ensures ∙ c.if-strays.true)
 
 pub returns-then-strays-2 : goal.returns-then-strays-2
 unfolding held10
 returns-then-strays-2 c =
     let b = c.args.judgement.now in
-    c.refused-then-strays-2.ensures ∙ each_second (strays_in b) 10 (sym c.strays.ensures ∙ c.if-strays.false) (sym c.strays-2.ensures ∙ c.if-strays-2.true)
+    each_second (strays_in b) 10 (sym c.strays.ensures ∙ c.if-strays.false) (sym c.strays-2.ensures ∙ c.if-strays-2.true)
 
 pub returns : goal.returns
 unfolding held10
 returns c =
     let b = c.args.judgement.now in
-    c.accepted.ensures ∙ each_none (strays_in b) 10 (sym c.strays.ensures ∙ c.if-strays.false) (sym c.strays-2.ensures ∙ c.if-strays-2.false)
+    each_none (strays_in b) 10 (sym c.strays.ensures ∙ c.if-strays.false) (sym c.strays-2.ensures ∙ c.if-strays-2.false)

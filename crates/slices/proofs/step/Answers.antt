@@ -12,7 +12,7 @@ use Rattle.slices.proofs.step.Goals as goal
 pub returns-then-not-holds_case : goal.returns-then-not-holds_case
 returns-then-not-holds_case c =
     let a = c.args in
-    let all = none_held a.judgement.now a.table.now a.roll.now a.kept.now c.refused.result (sym c.holds_case.ensures ∙ not-true _ (ap not c.if-not-holds_case.true)) c.refused.ensures in
+    let all = none_held a.judgement.now a.table.now a.roll.now a.kept.now c.from.result (sym c.holds_case.ensures ∙ not-true _ (ap not c.if-not-holds_case.true)) c.from.ensures in
     record {
       value = all.0;
       judgement_after = all.1.0;

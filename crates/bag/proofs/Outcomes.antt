@@ -10,25 +10,23 @@ use Rattle.refusals.specs.Rules.{answer, accepted, is_accepted, not_given}
 use Rattle.refusals.proofs.RuleLaws.{by_test}
 use Rattle.seal.specs.declared.Calibration.{Calibration}
 use Rattle.seal.specs.declared.Gate.{Gate}
-use Rattle.seal.specs.declared.Sealed.{Sealed}
-use Rattle.seal.specs.declared.Sealed.TheVariants.{Passed, BadLimit, NotFinite, Outside}
-use Rattle.seal.specs.declared.Read.TheVariants.{Seal, Broken}
-use Rattle.seal.specs.Pull.{judge_of, seal_answer}
+use Rattle.std.specs.Prelude.{Result, Ok, Err}
+use Rattle.seal.specs.declared.Reading.{Reading}
+use Rattle.seal.specs.declared.SealRefusal.{SealRefusal}
+use Rattle.seal.specs.declared.SealRefusal.TheVariants.{Broken, BadLimit, NotFinite, Outside}
+use Rattle.seal.specs.Pull.{judge_of, answer_for}
 use Rattle.ledger.specs.declared.Ledger.{Ledger}
 use Rattle.bag.specs.Contents.{laid_out, cases_of}
 use Rattle.bag.specs.SealAndCases.{seal_in, layout_answer, gate_answer, judged_cases, SoFar, so_far, judged_all, judged_from, all_judged, report, scanned_of, table_after_bag}
 
 -- only a bag that keeps to the layout has a seal
-pub has_layout : (b : List ℕ) (gate : Gate) (raw : Float) → seal_in b ≡ Seal gate raw → laid_out b ≡ true
+pub has_layout : (b : List ℕ) (reading : Reading) → seal_in b ≡ Ok reading → laid_out b ≡ true
 unfolding seal_in
-has_layout b gate raw h = by_test (laid_out b) (λ e. e) (λ e. cc)
+has_layout b reading h = by_test (laid_out b) (λ e. e) (λ e. cc)
 
--- a seal's answer that accepts is the acceptance
-passes : (s : Sealed) → is_accepted (seal_answer s) ≡ true → seal_answer s ≡ accepted
-passes (Passed p) h = refl
-passes BadLimit h = absurd (false≢true h)
-passes NotFinite h = absurd (false≢true h)
-passes Outside h = absurd (false≢true h)
+-- a refusal is no acceptance
+pub never_passed : (refusal : SealRefusal) → is_accepted (answer_for refusal) ≡ false
+never_passed = elim [ Broken ↦ refl | BadLimit ↦ refl | NotFinite ↦ refl | Outside ↦ refl ]
 
 module _ (k : Calibration) (b t r : List ℕ) (l : Ledger) where
   -- the scan gives these two answers, and what the cases' answers are and leave
@@ -40,16 +38,15 @@ module _ (k : Calibration) (b t r : List ℕ) (l : Ledger) where
   unfolding scanned_of table_after_bag
   gives layout seal h p q e = record { result = rw (sym p, sym q, sym e); table = sym (ap (λ (x : SoFar). x.table) e) }
 
-  pub broken : seal_in b ≡ Broken → Gives (answer 20 0) not_given (so_far [] t l)
+  pub broken : (refusal : SealRefusal) → seal_in b ≡ Err refusal → Gives (answer_for refusal) not_given (so_far [] t l)
   unfolding all_judged judged_cases judged_all
-  broken h = gives (answer 20 0) not_given (so_far [] t l) (rw h) (rw h) (rw h)
+  broken refusal h = gives (answer_for refusal) not_given (so_far [] t l) (rw h) (rw h) (rw (h, never_passed refusal))
 
-  module _ (gate : Gate) (raw : Float) (a : Answer) (h : seal_in b ≡ Seal gate raw) (e : a ≡ seal_answer (judge_of k gate raw)) where
-    pub stopped : is_accepted a ≡ false → Gives accepted a (so_far [] t l)
+  module _ (reading : Reading) (h : seal_in b ≡ Ok reading) where
+    pub stopped : (refusal : SealRefusal) → judge_of k reading.gate reading.raw ≡ Err refusal → Gives accepted (answer_for refusal) (so_far [] t l)
     unfolding all_judged judged_cases judged_all
-    stopped f = gives accepted a (so_far [] t l) (rw h) (rw h (sym e)) (rw (h, sym e, f))
+    stopped refusal e = gives accepted (answer_for refusal) (so_far [] t l) (rw h) (rw (h, e)) (rw (h, e, never_passed refusal))
 
-    pub passed : is_accepted a ≡ true → Gives accepted accepted (judged_from t r l (cases_of b))
+    pub passed : (p : Float) → judge_of k reading.gate reading.raw ≡ Ok p → Gives accepted accepted (judged_from t r l (cases_of b))
     unfolding all_judged judged_cases
-    passed f =
-        gives accepted accepted (judged_from t r l (cases_of b)) (rw h) (rw h (passes (judge_of k gate raw) (ap is_accepted (sym e) ∙ f))) (rw (h, sym e, f))
+    passed p e = gives accepted accepted (judged_from t r l (cases_of b)) (rw h) (rw (h, e)) (rw (h, e))

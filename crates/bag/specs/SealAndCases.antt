@@ -1,32 +1,33 @@
 -- What scanning a bag gives. b is the bag's bytes, k the scanner's calibration, t the nullifier table's bytes, r the anchor roll's, l the ledger's
 -- counts, record and pool.
 -- Assumes nothing.
-use Rattle.std.specs.Prelude.{ℕ, ◌-◌, cond, ◌&&◌, List, [], ◌∷◌, ◌++◌, length, replicate}
+use Rattle.std.specs.Prelude.{ℕ, ◌-◌, cond, ◌&&◌, List, [], ◌∷◌, ◌++◌, length, replicate, Result, Ok, Err}
 use Rattle.refusals.specs.declared.Answer.{Answer}
-use Rattle.refusals.specs.Rules.{answer, accepted, not_given, is_accepted}
+use Rattle.refusals.specs.Rules.{accepted, not_given, is_accepted}
 use Rattle.seal.specs.declared.Calibration.{Calibration}
-use Rattle.seal.specs.declared.Read.{Read}
-use Rattle.seal.specs.declared.Read.TheVariants.{Seal, Broken}
+use Rattle.seal.specs.declared.Reading.{Reading}
+use Rattle.seal.specs.declared.SealRefusal.{SealRefusal}
+use Rattle.seal.specs.declared.SealRefusal.TheVariants.{Broken}
 use Rattle.seal.specs.Body.{read_of}
-use Rattle.seal.specs.Pull.{judge_of, seal_answer}
+use Rattle.seal.specs.Pull.{judge_of, answer_for, seal_answer}
 use Rattle.ledger.specs.declared.Ledger.{Ledger}
 use Rattle.judge.specs.Judging.{answer_of, ledger_after_case, table_after_case}
 use Rattle.bag.specs.declared.Scanned.{Scanned}
 use Rattle.bag.specs.Contents.{laid_out, body_of, cases_of}
 
 -- THE SEAL. What the bag says of it; any breach, of the layout or of the seal's own body, is Broken
-unfoldable pub seal_in : List ℕ → Read
-seal_in b = cond (laid_out b) (read_of (body_of 0 b)) Broken
+unfoldable pub seal_in : List ℕ → Result Reading SealRefusal
+seal_in b = cond (laid_out b) (read_of (body_of 0 b)) (Err Broken)
 
 -- the layout's answer
-abbrev pub layout_answer : Read → Answer
-layout_answer (Seal gate raw) = accepted
-layout_answer Broken = answer 20 0
+abbrev pub layout_answer : Result Reading SealRefusal → Answer
+layout_answer (Ok reading) = accepted
+layout_answer (Err refusal) = answer_for refusal
 
 -- the seal's answer; a broken bag has no seal to judge
-abbrev pub gate_answer : Calibration → Read → Answer
-gate_answer k (Seal gate raw) = seal_answer (judge_of k gate raw)
-gate_answer k Broken = not_given
+abbrev pub gate_answer : Calibration → Result Reading SealRefusal → Answer
+gate_answer k (Ok reading) = seal_answer (judge_of k reading.gate reading.raw)
+gate_answer k (Err refusal) = not_given
 
 -- THE CASES that are judged: all, and none where the layout or the seal refuses
 unfoldable pub judged_cases : Calibration → List ℕ → List (List ℕ)

@@ -10,7 +10,7 @@ ghost use Rattle.bag.specs.SealAndCases.{seal_in, judged_from, report, scanned_o
 
 use ledger::Ledger;
 use refusals::Answer;
-use seal::{Calibration, Read};
+use seal::{Calibration, Reading, SealRefusal};
 
 // The longest bag, and the most rows of its table of contents.
 pub const MOST_BYTES: usize = 65536;
@@ -112,11 +112,11 @@ fn body<'a>(bag: &'a [u8], i: usize) -> &'a [u8]
 }
 
 // What the bag says of its seal. A bag that breaks the layout says as little as a broken seal.
-fn seal_in(bag: &[u8]) -> Read
+fn seal_in(bag: &[u8]) -> Result<Reading, SealRefusal>
     ensures { result ≡ seal_in bag.now }
 {
     if !is_laid_out(bag) {
-        return Read::Broken;
+        return Err(SealRefusal::Broken);
     }
     seal::read_body(body(bag, 0))
 }
@@ -174,16 +174,12 @@ pub fn scan(
     ensures value { result ≡ scanned_of calibration bag.now table.old roll.now ledger }
     ensures table_after { table.new ≡ table_after_bag calibration bag.now table.old roll.now ledger }
 {
-    let layout = Answer::accepted();
-    let read = seal_in(bag);
-    match read {
-        Read::Broken => unjudged(Answer::refused(20, 0), Answer::not_given(), ledger),
-        Read::Seal(gate, raw) => {
-            let seal = seal::judge(calibration, gate, raw).answer();
-            if !seal.is_accepted() {
-                return unjudged(layout, seal, ledger);
-            }
-            judge_cases(bag, table, roll, ledger)
-        }
+    let reading = match seal_in(bag) {
+        Ok(reading) => reading,
+        Err(broken) => return unjudged(Answer::from(broken), Answer::not_given(), ledger),
+    };
+    if let Err(refusal) = seal::judge(calibration, reading.gate, reading.raw) {
+        return unjudged(Answer::accepted(), Answer::from(refusal), ledger);
     }
+    judge_cases(bag, table, roll, ledger)
 }

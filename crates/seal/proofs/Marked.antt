@@ -12,9 +12,10 @@ use Rattle.octets.specs.Numbers.{little, little_bytes}
 use Rattle.seal.specs.declared.Calibration.{Calibration}
 use Rattle.seal.specs.declared.Gate.{Gate}
 use Rattle.seal.specs.declared.Gate.TheVariants.{None, AtLeast, Between}
-use Rattle.seal.specs.declared.Read.{Read}
-use Rattle.seal.specs.declared.Read.TheVariants.{Seal, Broken}
-use Rattle.seal.specs.Pull.{pull_of, bad_limit, within, at_gate, judge_of, seal_answer}
+use Rattle.std.specs.Prelude.{Result, Ok, Err}
+use Rattle.seal.specs.declared.Reading.{Reading}
+use Rattle.seal.specs.declared.SealRefusal.{SealRefusal}
+use Rattle.seal.specs.Pull.{pull_of, bad_limit, within, at_gate, judge_of, answer_for, seal_answer}
 use Rattle.seal.specs.Body.{float_of, is_zero, gate_of, unused_limit_set, is_broken, read_of}
 
 abbrev minus0 : ℕ
@@ -67,9 +68,9 @@ abbrev body : ℕ → ℕ → ℕ → ℕ → List ℕ
 body kind low high reading = kind ∷ little_bytes 8 low ++ (little_bytes 8 high ++ little_bytes 8 reading)
 
 -- the number of what some bytes say, at gain 0.5 and offset 1; a breach is 20
-abbrev number_of : Read → ℕ
-number_of (Seal g reading) = (seal_answer (judge_of (gain_offset half one) g reading)).number
-number_of Broken = 20
+abbrev number_of : Result Reading SealRefusal → ℕ
+number_of (Ok reading) = (seal_answer (judge_of (gain_offset half one) reading.gate reading.raw)).number
+number_of (Err refusal) = (answer_for refusal).number
 
 abbrev says : List ℕ → ℕ → Bool
 says bytes n = eqb (number_of (read_of bytes)) n

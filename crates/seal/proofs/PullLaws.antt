@@ -12,28 +12,30 @@ use Rattle.refusals.specs.Rules.{answer, accepted, first}
 use Rattle.refusals.proofs.RuleLaws.{by_test}
 use Rattle.seal.specs.declared.Calibration.{Calibration}
 use Rattle.seal.specs.declared.Gate.{Gate}
-use Rattle.seal.specs.declared.Sealed.TheVariants.{Passed, BadLimit, NotFinite, Outside}
+use Rattle.std.specs.Prelude.{Result, Ok, Err}
+use Rattle.seal.specs.declared.SealRefusal.{SealRefusal}
+use Rattle.seal.specs.declared.SealRefusal.TheVariants.{BadLimit, NotFinite, Outside}
 use Rattle.seal.specs.Pull.{pull_of, bad_limit, not_finite, within, outside, at_gate, judge_of, seal_answer, seal_refusals}
 
 module _ (g : Gate) (p : Float) where
-  pub bad_limit_lem : bad_limit g ≡ true → BadLimit ≡ at_gate g p
+  pub bad_limit_lem : bad_limit g ≡ true → Err BadLimit ≡ at_gate g p
   unfolding at_gate
   bad_limit_lem b = rw b
 
-  pub not_finite_lem : bad_limit g ≡ false → finite p ≡ false → NotFinite ≡ at_gate g p
+  pub not_finite_lem : bad_limit g ≡ false → finite p ≡ false → Err NotFinite ≡ at_gate g p
   unfolding at_gate
   not_finite_lem b f = rw (b, f)
 
-  pub not_within : bad_limit g ≡ false → finite p ≡ true → within g p ≡ false → Outside ≡ at_gate g p
+  pub not_within : bad_limit g ≡ false → finite p ≡ true → within g p ≡ false → Err Outside ≡ at_gate g p
   unfolding at_gate
   not_within b f w = rw (b, f, w)
 
-  pub passes : bad_limit g ≡ false → finite p ≡ true → within g p ≡ true → Passed p ≡ at_gate g p
+  pub passes : bad_limit g ≡ false → finite p ≡ true → within g p ≡ true → Ok p ≡ at_gate g p
   unfolding at_gate
   passes b f w = rw (b, f, w)
 
   -- what passed is the pull itself, a number, and within sound limits
-  pub passed : (q : Float) → at_gate g p ≡ Passed q → (q ≡ p) × ((bad_limit g ≡ false) × ((finite p ≡ true) × (within g p ≡ true)))
+  pub passed : (q : Float) → at_gate g p ≡ Ok q → (q ≡ p) × ((bad_limit g ≡ false) × ((finite p ≡ true) × (within g p ≡ true)))
   passed q e =
       by_test (bad_limit g)
       (λ b. absurd (let z : ◌≡◌ {A = ℕ} 0 1 = cc (bad_limit_lem b ∙ e) in omega arith))
@@ -49,14 +51,14 @@ module _ (c : Calibration) (g : Gate) where
   unfolding judge_of at_gate seal_refusals first
   answered raw = by_tests (bad_limit g) (not_finite (pull_of raw c)) (outside g (pull_of raw c))
     where
-      by_tests : (b f o : Bool) → seal_answer (cond b BadLimit (cond f NotFinite (cond o Outside (Passed (pull_of raw c))))) ≡ cond b (answer 21 0) (cond f (answer 22 0) (cond o (answer 23 0) accepted))
+      by_tests : (b f o : Bool) → seal_answer (cond b (Err BadLimit) (cond f (Err NotFinite) (cond o (Err Outside) (Ok (pull_of raw c))))) ≡ cond b (answer 21 0) (cond f (answer 22 0) (cond o (answer 23 0) accepted))
       by_tests true f o = refl
       by_tests false true o = refl
       by_tests false false true = refl
       by_tests false false false = refl
 
   -- a pull that passed is a number: a NaN never passes
-  pub passed_finite : (raw p : Float) → judge_of c g raw ≡ Passed p → finite p ≡ true
+  pub passed_finite : (raw p : Float) → judge_of c g raw ≡ Ok p → finite p ≡ true
   unfolding judge_of
   passed_finite raw p e = let h = passed g (pull_of raw c) p e in ap finite h.0 ∙ h.1.1.0
 

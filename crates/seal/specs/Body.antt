@@ -1,14 +1,15 @@
 -- A seal's body in the bag, 25 bytes: gate kind in one, low, high and raw in eight each.
 -- Assumes nothing.
-use Rattle.std.specs.Prelude.{ℕ, Bool, cond, not, ◌&&◌, ◌||◌, List, eqb, ltb, length, get_or, Float}
+use Rattle.std.specs.Prelude.{ℕ, Bool, cond, not, ◌&&◌, ◌||◌, List, eqb, ltb, length, get_or, Float, Result, Ok, Err}
 use Rattle.std.specs.Float.{binary64}
 use Rattle.std.specs.Float.Ieee.{of_bits}
 use Rattle.octets.specs.Parts.{zeros, field, same}
 use Rattle.octets.specs.Numbers.{little}
 use Rattle.seal.specs.declared.Gate.{Gate}
 use Rattle.seal.specs.declared.Gate.TheVariants.{None, AtLeast, Between}
-use Rattle.seal.specs.declared.Read.{Read}
-use Rattle.seal.specs.declared.Read.TheVariants.{Seal, Broken}
+use Rattle.seal.specs.declared.Reading.{Reading}
+use Rattle.seal.specs.declared.SealRefusal.{SealRefusal}
+use Rattle.seal.specs.declared.SealRefusal.TheVariants.{Broken}
 
 abbrev pub kind : List ℕ → ℕ
 kind s = get_or s 0 0
@@ -46,5 +47,5 @@ unfoldable pub is_broken : List ℕ → Bool
 is_broken s = not (eqb (length s) 25) || ltb 2 (kind s) || unused_limit_set (kind s) 1 (low s) || unused_limit_set (kind s) 2 (high s)
 
 -- what the bytes say
-unfoldable pub read_of : List ℕ → Read
-read_of s = cond (is_broken s) Broken (Seal (gate_of s) (float_of (raw s)))
+unfoldable pub read_of : List ℕ → Result Reading SealRefusal
+read_of s = cond (is_broken s) (Err Broken) (Ok (record { gate = gate_of s; raw = float_of (raw s) }))

@@ -1,6 +1,6 @@
 -- The wire's pull, the gate, and the refusals 21 to 23.
 -- Assumes nothing.
-use Rattle.std.specs.Prelude.{Bool, true, false, cond, not, ◌&&◌, ◌||◌, List, [], ◌∷◌, Float}
+use Rattle.std.specs.Prelude.{Bool, true, false, cond, not, ◌&&◌, ◌||◌, List, [], ◌∷◌, Float, Result, Ok, Err}
 use Rattle.std.specs.Float.{binary64}
 use Rattle.std.specs.Float.Ieee.{add, mul, lt, le}
 use Rattle.std.specs.Float.Ieee.Scale.{finite}
@@ -9,8 +9,8 @@ use Rattle.refusals.specs.Rules.{Rule, rule, answer, accepted}
 use Rattle.seal.specs.declared.Calibration.{Calibration}
 use Rattle.seal.specs.declared.Gate.{Gate}
 use Rattle.seal.specs.declared.Gate.TheVariants.{None, AtLeast, Between}
-use Rattle.seal.specs.declared.Sealed.{Sealed}
-use Rattle.seal.specs.declared.Sealed.TheVariants.{Passed, BadLimit, NotFinite, Outside}
+use Rattle.seal.specs.declared.SealRefusal.{SealRefusal}
+use Rattle.seal.specs.declared.SealRefusal.TheVariants.{Broken, BadLimit, NotFinite, Outside}
 
 -- a product and a sum, each rounded by itself
 unfoldable pub pull_of : Float → Calibration → Float
@@ -37,19 +37,23 @@ abbrev pub outside : Gate → Float → Bool
 outside g p = not (within g p)
 
 -- a pull at a gate: the first refusal that applies, and none of them hands out the pull
-unfoldable pub at_gate : Gate → Float → Sealed
-at_gate g p = cond (bad_limit g) BadLimit (cond (not_finite p) NotFinite (cond (outside g p) Outside (Passed p)))
+unfoldable pub at_gate : Gate → Float → Result Float SealRefusal
+at_gate g p = cond (bad_limit g) (Err BadLimit) (cond (not_finite p) (Err NotFinite) (cond (outside g p) (Err Outside) (Ok p)))
 
 -- the judgement of a raw reading
-unfoldable pub judge_of : Calibration → Gate → Float → Sealed
+unfoldable pub judge_of : Calibration → Gate → Float → Result Float SealRefusal
 judge_of c g raw = at_gate g (pull_of raw c)
 
--- the number and the place of each answer
-abbrev pub seal_answer : Sealed → Answer
-seal_answer (Passed p) = accepted
-seal_answer BadLimit = answer 21 0
-seal_answer NotFinite = answer 22 0
-seal_answer Outside = answer 23 0
+-- the number and the place of each answer; 20 is the layout's, by what the body says
+abbrev pub answer_for : SealRefusal → Answer
+answer_for Broken = answer 20 0
+answer_for BadLimit = answer 21 0
+answer_for NotFinite = answer 22 0
+answer_for Outside = answer 23 0
+
+abbrev pub seal_answer : Result Float SealRefusal → Answer
+seal_answer (Ok p) = accepted
+seal_answer (Err refusal) = answer_for refusal
 
 -- the same as a table of refusals: 21, 22 and 23 at place 0
 unfoldable pub seal_refusals : Calibration → Gate → Float → List Rule

@@ -8,7 +8,7 @@ ghost use Rattle.std.specs.Float.{binary64};
 ghost use Rattle.std.specs.Float.Ieee.{of_bits};
 ghost use Rattle.std.specs.Float.Ieee.Scale.{finite};
 ghost use Rattle.octets.specs.Parts.{field};
-ghost use Rattle.seal.specs.Pull.{pull_of, bad_limit, within, judge_of, seal_answer};
+ghost use Rattle.seal.specs.Pull.{pull_of, bad_limit, within, judge_of, answer_for, seal_answer};
 ghost use Rattle.seal.specs.Body.{float_of, unused_limit_set, is_broken, gate_of, read_of};
 
 use refusals::Answer;
@@ -28,32 +28,42 @@ pub enum Gate {
     Between(f64, f64),
 }
 
-// The judgement of a seal. Only one that passed has a pull to hand out.
+// What a seal's body says: its gate and the raw reading.
 #[derive(Clone, Copy)]
-pub enum Sealed {
-    Passed(f64),
+pub struct Reading {
+    pub gate: Gate,
+    pub raw: f64,
+}
+
+// Why a seal does not pass, in the order of the numbers. A seal that passed has a pull to hand out, and no other.
+#[derive(Clone, Copy)]
+pub enum SealRefusal {
+    Broken,
     BadLimit,
     NotFinite,
     Outside,
 }
 
-// What a seal's body says: its gate and the raw reading.
-#[derive(Clone, Copy)]
-pub enum Read {
-    Seal(Gate, f64),
-    Broken,
+impl From<SealRefusal> for Answer {
+    ghost from_gives = { λ refusal a. a ≡ answer_for refusal };
+
+    fn from(refusal: SealRefusal) -> Answer {
+        match refusal {
+            SealRefusal::Broken => Answer::refused(20, 0),
+            SealRefusal::BadLimit => Answer::refused(21, 0),
+            SealRefusal::NotFinite => Answer::refused(22, 0),
+            SealRefusal::Outside => Answer::refused(23, 0),
+        }
+    }
 }
 
-impl Sealed {
-    pub fn answer(self) -> Answer
-        ensures { result ≡ seal_answer self }
-    {
-        match self {
-            Sealed::Passed(_) => Answer::accepted(),
-            Sealed::BadLimit => Answer::refused(21, 0),
-            Sealed::NotFinite => Answer::refused(22, 0),
-            Sealed::Outside => Answer::refused(23, 0),
-        }
+// A judged seal's answer.
+pub fn answer(sealed: Result<f64, SealRefusal>) -> Answer
+    ensures { result ≡ seal_answer sealed }
+{
+    match sealed {
+        Ok(_) => Answer::accepted(),
+        Err(refusal) => Answer::from(refusal),
     }
 }
 
@@ -111,20 +121,20 @@ fn is_within(g: Gate, p: f64) -> bool
 }
 
 // The refusals in their order: the first that applies is the answer.
-pub fn judge(c: Calibration, g: Gate, raw: f64) -> Sealed
+pub fn judge(c: Calibration, g: Gate, raw: f64) -> Result<f64, SealRefusal>
     ensures { result ≡ judge_of c g raw }
 {
     if has_bad_limit(g) {
-        return Sealed::BadLimit;
+        return Err(SealRefusal::BadLimit);
     }
     let p = pull(raw, c);
     if !is_finite(p) {
-        return Sealed::NotFinite;
+        return Err(SealRefusal::NotFinite);
     }
     if !is_within(g, p) {
-        return Sealed::Outside;
+        return Err(SealRefusal::Outside);
     }
-    Sealed::Passed(p)
+    Ok(p)
 }
 
 // The float of a pattern. Every NaN's pattern gives the same NaN, since from_bits takes none of
@@ -187,11 +197,14 @@ fn gate_of(bytes: &[u8]) -> Gate
 }
 
 // What any slice says as a seal's body.
-pub fn read_body(bytes: &[u8]) -> Read
+pub fn read_body(bytes: &[u8]) -> Result<Reading, SealRefusal>
     ensures { result ≡ read_of bytes.now }
 {
     if is_broken(bytes) {
-        return Read::Broken;
+        return Err(SealRefusal::Broken);
     }
-    Read::Seal(gate_of(bytes), float_at(bytes, 17))
+    Ok(Reading {
+        gate: gate_of(bytes),
+        raw: float_at(bytes, 17),
+    })
 }

@@ -7,11 +7,11 @@ use mathlib.Core.List.{List}
 use Rattle.refusals.specs.declared.Answer.{Answer}
 use Rattle.refusals.specs.Rules.{answer_in_row, first, rules_in}
 use Rattle.refusals.proofs.AnswerRows.{without_rows, no_row}
-use Rattle.seal.specs.declared.Read.{Read}
-use Rattle.seal.specs.declared.Read.TheVariants.{Seal, Broken}
-use Rattle.seal.specs.declared.Sealed.{Sealed}
-use Rattle.seal.specs.declared.Sealed.TheVariants.{Passed, BadLimit, NotFinite, Outside}
-use Rattle.seal.specs.Pull.{seal_answer}
+use Rattle.seal.specs.declared.Reading.{Reading}
+use Rattle.std.specs.Prelude.{Float, Result, Ok, Err}
+use Rattle.seal.specs.declared.SealRefusal.{SealRefusal}
+use Rattle.seal.specs.declared.SealRefusal.TheVariants.{Broken, BadLimit, NotFinite, Outside}
+use Rattle.seal.specs.Pull.{seal_answer, answer_for}
 use Rattle.casefile.specs.Fields.{nullifier_of}
 use Rattle.ledger.specs.declared.Ledger.{Ledger}
 use Rattle.ledger.specs.Ledgers.{no2, close_refusals, open_refusals}
@@ -49,12 +49,13 @@ pub open_zero : (r : List ℕ) → (first (open_refusals r)).row.0 ≡ 0
 unfolding open_refusals without_rows
 open_zero r = no_row (open_refusals r) refl
 
-pub layout_zero : (x : Read) → (layout_answer x).row.0 ≡ 0
-layout_zero (Seal gate raw) = refl
-layout_zero Broken = refl
+refusal_zero : (x : SealRefusal) → (answer_for x).row.0 ≡ 0
+refusal_zero = elim [ Broken ↦ refl | BadLimit ↦ refl | NotFinite ↦ refl | Outside ↦ refl ]
 
-pub seal_zero : (x : Sealed) → (seal_answer x).row.0 ≡ 0
-seal_zero (Passed pull) = refl
-seal_zero BadLimit = refl
-seal_zero NotFinite = refl
-seal_zero Outside = refl
+pub layout_zero : (x : Result Reading SealRefusal) → (layout_answer x).row.0 ≡ 0
+layout_zero (Ok reading) = refl
+layout_zero (Err refusal) = refusal_zero refusal
+
+pub seal_zero : (x : Result Float SealRefusal) → (seal_answer x).row.0 ≡ 0
+seal_zero (Ok pull) = refl
+seal_zero (Err refusal) = refusal_zero refusal

@@ -24,12 +24,12 @@ use Rattle.judge.proofs.SpentRow.{other_rows, row_within}
 use Rattle.demands.specs.Refusals.{case_sentences, all_places}
 use Rattle.demands.proofs.Demand1.{case_answered, one_place}
 use Rattle.seal.specs.declared.Calibration.{Calibration}
-use Rattle.seal.specs.declared.Read.{Read}
-use Rattle.seal.specs.declared.Read.TheVariants.{Seal, Broken}
-use Rattle.seal.specs.declared.Sealed.{Sealed}
-use Rattle.seal.specs.declared.Sealed.TheVariants.{Passed, BadLimit, NotFinite, Outside}
+use Rattle.seal.specs.declared.Reading.{Reading}
+use Rattle.std.specs.Prelude.{Float, Result, Ok, Err}
+use Rattle.seal.specs.declared.SealRefusal.{SealRefusal}
+use Rattle.seal.specs.declared.SealRefusal.TheVariants.{Broken, BadLimit, NotFinite, Outside}
 use Rattle.seal.specs.Body.{read_of}
-use Rattle.seal.specs.Pull.{judge_of, seal_answer}
+use Rattle.seal.specs.Pull.{judge_of, seal_answer, answer_for}
 use Rattle.bag.specs.SealAndCases.{SoFar, with_next, judged_all, all_judged, seal_in, layout_answer, gate_answer, judged_cases, seven_answers, report, scanned_of}
 use Rattle.books.specs.DayList.{with_day_row}
 use Rattle.host.specs.Answers.{code_of, is_long}
@@ -107,27 +107,31 @@ unfolding day_answer
 day_fits i a b = one_of (is_on_list i b) _ _ (one_of (is_answer a) _ _ pass (rowless 54 0 (omega arith) (omega arith))) (rowless 53 0 (omega arith) (omega arith))
 
 -- a seal, and a bag's own answer
-sealed_fits : (x : Sealed) → FitsCode (seal_answer x)
-sealed_fits (Passed p) = pass
-sealed_fits BadLimit = rowless 21 0 (omega arith) (omega arith)
-sealed_fits NotFinite = rowless 22 0 (omega arith) (omega arith)
-sealed_fits Outside = rowless 23 0 (omega arith) (omega arith)
+refusal_fits : (x : SealRefusal) → FitsCode (answer_for x)
+refusal_fits Broken = rowless 20 0 (omega arith) (omega arith)
+refusal_fits BadLimit = rowless 21 0 (omega arith) (omega arith)
+refusal_fits NotFinite = rowless 22 0 (omega arith) (omega arith)
+refusal_fits Outside = rowless 23 0 (omega arith) (omega arith)
 
-read_fits : (k : Calibration) (x : Read) → FitsCode (read_answer k x)
-read_fits k (Seal gate raw) = sealed_fits (judge_of k gate raw)
-read_fits k Broken = rowless 20 0 (omega arith) (omega arith)
+sealed_fits : (x : Result Float SealRefusal) → FitsCode (seal_answer x)
+sealed_fits (Ok p) = pass
+sealed_fits (Err refusal) = refusal_fits refusal
+
+read_fits : (k : Calibration) (x : Result Reading SealRefusal) → FitsCode (read_answer k x)
+read_fits k (Ok reading) = sealed_fits (judge_of k reading.gate reading.raw)
+read_fits k (Err refusal) = refusal_fits refusal
 
 pub seal_fits : (k : Calibration) (b o : List ℕ) → FitsCode (body_answer k b o)
 unfolding body_answer
 seal_fits k b o = one_of (is_long 8 o) _ _ (read_fits k (read_of b)) (misfit 5 (omega arith))
 
-layout_fits : (x : Read) → FitsCode (layout_answer x)
-layout_fits (Seal gate raw) = pass
-layout_fits Broken = rowless 20 0 (omega arith) (omega arith)
+layout_fits : (x : Result Reading SealRefusal) → FitsCode (layout_answer x)
+layout_fits (Ok reading) = pass
+layout_fits (Err refusal) = refusal_fits refusal
 
-gate_fits : (k : Calibration) (x : Read) → FitsCode (gate_answer k x)
-gate_fits k (Seal gate raw) = sealed_fits (judge_of k gate raw)
-gate_fits k Broken = rowless 255 0 (omega arith) (omega arith)
+gate_fits : (k : Calibration) (x : Result Reading SealRefusal) → FitsCode (gate_answer k x)
+gate_fits k (Ok reading) = sealed_fits (judge_of k reading.gate reading.raw)
+gate_fits k (Err refusal) = rowless 255 0 (omega arith) (omega arith)
 
 pub bag_fits : (k : Calibration) (b s t r o : List ℕ) → FitsCode (bag_answer k b s t r o)
 unfolding bag_answer scanned_of report

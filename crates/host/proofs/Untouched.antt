@@ -11,10 +11,9 @@ use Rattle.refusals.specs.Rules.{is_accepted}
 use Rattle.octets.proofs.BoolLaws.{and_both}
 use Rattle.refusals.proofs.RuleLaws.{by_test}
 use Rattle.seal.specs.declared.Calibration.{Calibration}
-use Rattle.seal.specs.declared.Read.{Read}
-use Rattle.seal.specs.declared.Read.TheVariants.{Seal, Broken}
-use Rattle.seal.specs.declared.Sealed.{Sealed}
-use Rattle.seal.specs.declared.Sealed.TheVariants.{Passed, BadLimit, NotFinite, Outside}
+use Rattle.seal.specs.declared.Reading.{Reading}
+use Rattle.std.specs.Prelude.{Float, Result, Ok, Err}
+use Rattle.seal.specs.declared.SealRefusal.{SealRefusal}
 use Rattle.seal.specs.Body.{read_of}
 use Rattle.seal.specs.Pull.{judge_of, seal_answer}
 use Rattle.tree.specs.Record.{fresh_of}
@@ -85,15 +84,13 @@ unfolding day_after
 day_leaves i seal a b h = rw h
 
 -- a seal that does not pass hands out no pull
-not_handed : (s : Sealed) (o : List ℕ) → is_accepted (seal_answer s) ≡ false → handed s o ≡ o
-not_handed (Passed p) o h = absurd (true≢false h)
-not_handed BadLimit o h = refl
-not_handed NotFinite o h = refl
-not_handed Outside o h = refl
+not_handed : (s : Result Float SealRefusal) (o : List ℕ) → is_accepted (seal_answer s) ≡ false → handed s o ≡ o
+not_handed (Ok p) o h = absurd (true≢false h)
+not_handed (Err refusal) o h = refl
 
-not_read : (k : Calibration) (x : Read) (o : List ℕ) → is_accepted (read_answer k x) ≡ false → read_pull k x o ≡ o
-not_read k (Seal gate raw) o h = not_handed (judge_of k gate raw) o h
-not_read k Broken o h = refl
+not_read : (k : Calibration) (x : Result Reading SealRefusal) (o : List ℕ) → is_accepted (read_answer k x) ≡ false → read_pull k x o ≡ o
+not_read k (Ok reading) o h = not_handed (judge_of k reading.gate reading.raw) o h
+not_read k (Err refusal) o h = refl
 
 pub seal_leaves : (k : Calibration) (b o : List ℕ) → is_accepted (body_answer k b o) ≡ false → pull_after k b o ≡ o
 unfolding pull_after body_answer

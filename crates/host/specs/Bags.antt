@@ -1,41 +1,37 @@
 -- A seal and a bag judged for a host. k is the scanner's calibration, b the bag's bytes, s, t and r the ledger's three buffers, o the report's.
 -- Assumes nothing.
-use Rattle.std.specs.Prelude.{ℕ, cond, ◌&&◌, List, [], ◌∷◌, ◌++◌, Float}
+use Rattle.std.specs.Prelude.{ℕ, cond, ◌&&◌, List, [], ◌∷◌, ◌++◌, Float, Result, Ok, Err}
 use Rattle.std.specs.Float.{binary64}
 use Rattle.std.specs.Float.Ieee.{to_bits}
 use Rattle.octets.specs.Parts.{pasted}
 use Rattle.octets.specs.Numbers.{little_bytes}
 use Rattle.refusals.specs.declared.Answer.{Answer}
-use Rattle.refusals.specs.Rules.{answer, is_accepted}
+use Rattle.refusals.specs.Rules.{is_accepted}
 use Rattle.seal.specs.declared.Calibration.{Calibration}
-use Rattle.seal.specs.declared.Read.{Read}
-use Rattle.seal.specs.declared.Read.TheVariants.{Seal, Broken}
-use Rattle.seal.specs.declared.Sealed.{Sealed}
-use Rattle.seal.specs.declared.Sealed.TheVariants.{Passed, BadLimit, NotFinite, Outside}
+use Rattle.seal.specs.declared.Reading.{Reading}
+use Rattle.seal.specs.declared.SealRefusal.{SealRefusal}
 use Rattle.seal.specs.Body.{read_of}
-use Rattle.seal.specs.Pull.{judge_of, seal_answer}
+use Rattle.seal.specs.Pull.{judge_of, answer_for, seal_answer}
 use Rattle.ledgerbytes.specs.LedgerBytes.{is_whole, ledger_of, ledger_bytes}
 use Rattle.bag.specs.declared.Scanned.{Scanned}
 use Rattle.bag.specs.SealAndCases.{scanned_of, table_after_bag}
 use Rattle.host.specs.Answers.{code_of, wrong_length, is_long}
 
 -- THE SEAL alone, b its body and o the buffer for the pull: a broken body is 20, and only a pass hands the pull out, all its bits in eight bytes
-abbrev pub read_answer : Calibration → Read → Answer
-read_answer k (Seal gate raw) = seal_answer (judge_of k gate raw)
-read_answer k Broken = answer 20 0
+abbrev pub read_answer : Calibration → Result Reading SealRefusal → Answer
+read_answer k (Ok reading) = seal_answer (judge_of k reading.gate reading.raw)
+read_answer k (Err refusal) = answer_for refusal
 
 abbrev pub pull_bytes : Float → List ℕ
 pull_bytes p = little_bytes 8 (to_bits binary64 p)
 
-abbrev pub handed : Sealed → List ℕ → List ℕ
-handed (Passed p) o = pasted 0 (pull_bytes p) o
-handed BadLimit o = o
-handed NotFinite o = o
-handed Outside o = o
+abbrev pub handed : Result Float SealRefusal → List ℕ → List ℕ
+handed (Ok p) o = pasted 0 (pull_bytes p) o
+handed (Err refusal) o = o
 
-abbrev pub read_pull : Calibration → Read → List ℕ → List ℕ
-read_pull k (Seal gate raw) o = handed (judge_of k gate raw) o
-read_pull k Broken o = o
+abbrev pub read_pull : Calibration → Result Reading SealRefusal → List ℕ → List ℕ
+read_pull k (Ok reading) o = handed (judge_of k reading.gate reading.raw) o
+read_pull k (Err refusal) o = o
 
 unfoldable pub body_answer : Calibration → List ℕ → List ℕ → Answer
 body_answer k b o = cond (is_long 8 o) (read_answer k (read_of b)) (wrong_length 5)

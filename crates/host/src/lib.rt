@@ -8,7 +8,7 @@ ghost use Rattle.std.specs.Prelude.{◌≡◌};
 ghost use Rattle.std.specs.Float.{binary64};
 ghost use Rattle.std.specs.Float.Ieee.{to_bits};
 ghost use Rattle.seal.specs.Pull.{seal_answer};
-ghost use Rattle.host.specs.Answers.{code_of};
+ghost use Rattle.host.specs.Answers.{code_of, answer_for};
 ghost use Rattle.host.specs.Ledgers.{open_answer, ledger_after_open_call, roll_after_open_call, judge_answer, ledger_after_judge_call, table_after_judge_call, close_answer, ledger_after_close_call, roll_after_close_call, root_answer, root_after, hash_answer, hash_after};
 ghost use Rattle.host.specs.Bags.{handed, body_answer, pull_after, own_answer, bag_answer, ledger_after_bag_call, table_after_bag_call, answers_of, report_of, report_after_bag_call};
 ghost use Rattle.host.specs.Books.{is_answer, tally_in, tally_bytes, tally_answer, tally_after, day_row, day_answer, day_after};
@@ -17,7 +17,7 @@ use bag::Scanned;
 use books::Tally;
 use ledgerbytes::LEDGER_LENGTH;
 use refusals::Answer;
-use seal::{Calibration, Read, Sealed};
+use seal::{Calibration, SealRefusal};
 
 // An answer as one number: the refusal's own, its place above that, and its row in the upper 16 bits.
 pub fn code(a: Answer) -> u32
@@ -28,6 +28,48 @@ pub fn code(a: Answer) -> u32
     (a.number as u32) + 256 * (a.place as u32) + 65536 * upper
 }
 
+// What a caller does wrong: a lent buffer of another length than it must have, a tally that is full, a day list
+// without that row, and what is no answer.
+#[derive(Clone, Copy)]
+pub enum Misuse {
+    LedgerLength,
+    RootLength,
+    ReportLength,
+    TallyLength,
+    PullLength,
+    DigestLength,
+    JudgementLength,
+    TallyFull,
+    NoSuchRow,
+    NoAnswer,
+}
+
+impl From<Misuse> for Answer {
+    ghost from_gives = { λ misuse a. a ≡ answer_for misuse };
+
+    fn from(misuse: Misuse) -> Answer {
+        match misuse {
+            Misuse::LedgerLength => Answer::refused(51, 1),
+            Misuse::RootLength => Answer::refused(51, 2),
+            Misuse::ReportLength => Answer::refused(51, 3),
+            Misuse::TallyLength => Answer::refused(51, 4),
+            Misuse::PullLength => Answer::refused(51, 5),
+            Misuse::DigestLength => Answer::refused(51, 6),
+            Misuse::JudgementLength => Answer::refused(51, 7),
+            Misuse::TallyFull => Answer::refused(52, 0),
+            Misuse::NoSuchRow => Answer::refused(53, 0),
+            Misuse::NoAnswer => Answer::refused(54, 0),
+        }
+    }
+}
+
+// The same as one number.
+pub fn refused(misuse: Misuse) -> u32
+    ensures { result ≡ code_of (answer_for misuse) }
+{
+    code(Answer::from(misuse))
+}
+
 // Opens a fresh ledger. The table needs no byte of its own.
 pub fn snaldrek_proved_open(ledger: &mut [u8], roll: &mut [u8]) -> u32
     ensures value { result ≡ code_of (open_answer ledger.old roll.old) }
@@ -35,7 +77,7 @@ pub fn snaldrek_proved_open(ledger: &mut [u8], roll: &mut [u8]) -> u32
     ensures roll_after { roll.new ≡ roll_after_open_call ledger.old roll.old }
 {
     if ledger.len() != LEDGER_LENGTH {
-        return code(Answer::refused(51, 1));
+        return refused(Misuse::LedgerLength);
     }
     let opened = judge::open(roll);
     ledgerbytes::write(ledger, opened.ledger);
@@ -49,9 +91,9 @@ pub fn snaldrek_proved_judge(case: &[u8], ledger: &mut [u8], table: &mut [u8], r
     ensures table_after { table.new ≡ table_after_judge_call case.now ledger.old table.old roll.now }
 {
     if ledger.len() != LEDGER_LENGTH {
-        return code(Answer::refused(51, 1));
+        return refused(Misuse::LedgerLength);
     }
-    code(judge::judge_kept(case, table, roll, ledger))
+    code(Answer::from(judge::judge_kept(case, table, roll, ledger)))
 }
 
 // Closes a block.
@@ -61,9 +103,9 @@ pub fn snaldrek_proved_close(ledger: &mut [u8], table: &[u8], roll: &mut [u8]) -
     ensures roll_after { roll.new ≡ roll_after_close_call ledger.old table.now roll.old }
 {
     if ledger.len() != LEDGER_LENGTH {
-        return code(Answer::refused(51, 1));
+        return refused(Misuse::LedgerLength);
     }
-    code(judge::close_kept(table, roll, ledger))
+    code(Answer::from(judge::close_kept(table, roll, ledger)))
 }
 
 // The root that a block closed now would put on the roll.
@@ -72,10 +114,10 @@ pub fn snaldrek_proved_root(ledger: &[u8], root: &mut [u8]) -> u32
     ensures root_after { root.new ≡ root_after ledger.now root.old }
 {
     if ledger.len() != LEDGER_LENGTH {
-        return code(Answer::refused(51, 1));
+        return refused(Misuse::LedgerLength);
     }
     if root.len() != 32 {
-        return code(Answer::refused(51, 2));
+        return refused(Misuse::RootLength);
     }
     let kept = ledgerbytes::read(ledger);
     let tree = kept.tree;
@@ -90,7 +132,7 @@ pub fn snaldrek_proved_hash(bytes: &[u8], digest: &mut [u8]) -> u32
     ensures digest_after { digest.new ≡ hash_after bytes.now digest.old }
 {
     if digest.len() != 32 {
-        return code(Answer::refused(51, 6));
+        return refused(Misuse::DigestLength);
     }
     let sum = sha256::hash(bytes);
     octets::copy_in(digest, 0, &sum);
@@ -108,20 +150,17 @@ fn bits_of(x: f64) -> u64
 }
 
 // Hands out the pull of a seal that passed, and of no other.
-fn hand_out(sealed: Sealed, pull: &mut [u8]) -> u32
+fn hand_out(sealed: Result<f64, SealRefusal>, pull: &mut [u8]) -> u32
     ensures value { result ≡ code_of (seal_answer sealed) }
     ensures pull_after { pull.new ≡ handed sealed pull.old }
 {
-    let answer = sealed.answer();
     match sealed {
-        Sealed::Passed(p) => {
+        Ok(p) => {
             let bytes = octets::le_bytes64(bits_of(p));
             octets::copy_in(pull, 0, &bytes);
-            code(answer)
+            code(Answer::accepted())
         }
-        Sealed::BadLimit => code(answer),
-        Sealed::NotFinite => code(answer),
-        Sealed::Outside => code(answer),
+        Err(refusal) => code(Answer::from(refusal)),
     }
 }
 
@@ -131,15 +170,14 @@ pub fn snaldrek_proved_seal(body: &[u8], gain: f64, offset: f64, pull: &mut [u8]
     ensures pull_after { pull.new ≡ pull_after (record { gain = gain; offset = offset }) body.now pull.old }
 {
     if pull.len() != 8 {
-        return code(Answer::refused(51, 5));
+        return refused(Misuse::PullLength);
     }
-    let read = seal::read_body(body);
-    match read {
-        Read::Broken => code(Answer::refused(20, 0)),
-        Read::Seal(gate, raw) => {
+    match seal::read_body(body) {
+        Ok(reading) => {
             let setting = Calibration { gain, offset };
-            hand_out(seal::judge(setting, gate, raw), pull)
+            hand_out(seal::judge(setting, reading.gate, reading.raw), pull)
         }
+        Err(broken) => code(Answer::from(broken)),
     }
 }
 
@@ -196,10 +234,10 @@ pub fn snaldrek_proved_bag(
     ensures report_after { report.new ≡ report_after_bag_call (record { gain = gain; offset = offset }) bag.now ledger.old table.old roll.now report.old }
 {
     if ledger.len() != LEDGER_LENGTH {
-        return code(Answer::refused(51, 1));
+        return refused(Misuse::LedgerLength);
     }
     if report.len() != 32 {
-        return code(Answer::refused(51, 3));
+        return refused(Misuse::ReportLength);
     }
     let kept = ledgerbytes::read(&*ledger);
     let scanned = bag::scan(bag, Calibration { gain, offset }, table, roll, kept);
@@ -243,11 +281,11 @@ pub fn snaldrek_proved_tally(tally: &mut [u8], answer: u32) -> u32
     ensures tally_after { tally.new ≡ tally_after tally.old answer }
 {
     if tally.len() != 12 {
-        return code(Answer::refused(51, 4));
+        return refused(Misuse::TallyLength);
     }
     let counted = books::counted(tally_in(&*tally), answer == 0);
     if !counted.ok {
-        return code(Answer::refused(52, 0));
+        return refused(Misuse::TallyFull);
     }
     let bytes = tally_bytes(counted.tally);
     octets::copy_in(tally, 0, &bytes);
@@ -286,10 +324,10 @@ pub fn snaldrek_proved_day(list: &mut [u8], row: usize, seal: u32, answer: u32) 
     ensures list_after { list.new ≡ day_after row seal answer list.old }
 {
     if list.len() / 6 <= row {
-        return code(Answer::refused(53, 0));
+        return refused(Misuse::NoSuchRow);
     }
     if !is_answer(answer) {
-        return code(Answer::refused(54, 0));
+        return refused(Misuse::NoAnswer);
     }
     let bytes = day_row(seal, answer);
     octets::copy_in(list, 6 * row, &bytes);

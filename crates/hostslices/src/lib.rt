@@ -6,8 +6,8 @@ ghost use Rattle.std.specs.Prelude.{◌≡◌};
 ghost use Rattle.host.specs.Answers.{code_of};
 ghost use Rattle.hostslices.specs.StepCalls.{begin_call_answer, record_after_begin_call, step_call_answer, record_after_step_call, ledger_after_step_call, table_after_step_call};
 
+use host::Misuse;
 use ledgerbytes::LEDGER_LENGTH;
-use refusals::Answer;
 use slices::JUDGEMENT_LENGTH;
 
 // Takes a case into a judgement, and takes its first step.
@@ -16,7 +16,7 @@ pub fn snaldrek_proved_begin(case: &[u8], judgement: &mut [u8]) -> u32
     ensures judgement_after { judgement.new ≡ record_after_begin_call case.now judgement.old }
 {
     if judgement.len() != JUDGEMENT_LENGTH {
-        return host::code(Answer::refused(51, 7));
+        return host::refused(Misuse::JudgementLength);
     }
     host::code(slices::begin(case, judgement))
 }
@@ -34,10 +34,10 @@ pub fn snaldrek_proved_step(
     ensures table_after { table.new ≡ table_after_step_call judgement.old ledger.old table.old roll.now }
 {
     if ledger.len() != LEDGER_LENGTH {
-        return host::code(Answer::refused(51, 1));
+        return host::refused(Misuse::LedgerLength);
     }
     if judgement.len() != JUDGEMENT_LENGTH {
-        return host::code(Answer::refused(51, 7));
+        return host::refused(Misuse::JudgementLength);
     }
     host::code(slices::step(judgement, table, roll, ledger))
 }

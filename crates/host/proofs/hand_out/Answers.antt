@@ -1,37 +1,23 @@
 use mathlib.Core.Path.{sym, ap, ◌∙◌}
-use Rattle.seal.specs.declared.Sealed.{Sealed}
+use lib.Ieee.{Float}
+use Rattle.std.specs.Prelude.{Result}
+use Rattle.seal.specs.declared.SealRefusal.{SealRefusal}
 use Rattle.host.specs.Answers.{code_of}
 use Rattle.host.specs.Bags.{handed}
 use Rattle.host.proofs.hand_out.Goals as goal
 
-pub returns-in-Passed : goal.returns-in-Passed
-returns-in-Passed c =
+pub returns-in-Ok : goal.returns-in-Ok
+returns-in-Ok c =
     let old = c.args.pull.now in
     record {
-      value = c.code.ensures ∙ ap code_of c.answer-answer.ensures;
-      pull_after = c.copy_in.ensures.dst_after ∙ rw (c.le_bytes64-bytes.ensures, c.bits_of.ensures) (ap (λ (y : Sealed). handed y old) (sym c.in-Passed.is));
+      value = c.code.ensures ∙ rw (c.accepted.ensures, c.in-Ok.is);
+      pull_after = c.copy_in.ensures.dst_after ∙ rw (c.le_bytes64-bytes.ensures, c.bits_of.ensures) (ap (λ (y : Result Float SealRefusal). handed y old) (sym c.in-Ok.is));
     }
 
-pub returns-in-BadLimit : goal.returns-in-BadLimit
-returns-in-BadLimit c =
+pub returns-in-Err : goal.returns-in-Err
+returns-in-Err c =
     let old = c.args.pull.now in
     record {
-      value = c.code-in-BadLimit.ensures ∙ ap code_of c.answer-answer.ensures;
-      pull_after = ap (λ (y : Sealed). handed y old) (sym c.in-BadLimit.is);
-    }
-
-pub returns-in-NotFinite : goal.returns-in-NotFinite
-returns-in-NotFinite c =
-    let old = c.args.pull.now in
-    record {
-      value = c.code-in-NotFinite.ensures ∙ ap code_of c.answer-answer.ensures;
-      pull_after = ap (λ (y : Sealed). handed y old) (sym c.in-NotFinite.is);
-    }
-
-pub returns-in-Outside : goal.returns-in-Outside
-returns-in-Outside c =
-    let old = c.args.pull.now in
-    record {
-      value = c.code-in-Outside.ensures ∙ ap code_of c.answer-answer.ensures;
-      pull_after = ap (λ (y : Sealed). handed y old) (sym c.in-Outside.is);
+      value = c.code-in-Err.ensures ∙ rw (c.from.ensures, c.in-Err.is);
+      pull_after = ap (λ (y : Result Float SealRefusal). handed y old) (sym c.in-Err.is);
     }

@@ -20,7 +20,7 @@ unfolding bag_answer ledger_after_bag_call table_after_bag_call report_after_bag
 returns-then-ledger-ne-LEDGER_LENGTH c =
     let h = ne_eqb (length c.args.ledger.now) 988 c.if-ledger-ne-LEDGER_LENGTH.true in
     record {
-      value = c.code.ensures ∙ rw (c.refused.ensures, h);
+      value = c.refused.ensures ∙ rw h;
       ledger_after = rw h;
       table_after = rw h;
       report_after = rw h;
@@ -33,7 +33,7 @@ returns-then-report-ne32 c =
     let h = eq-eqb (length a.ledger.now) 988 (omega arith) in
     let n = ne_eqb (length a.report.now) 32 c.if-report-ne32.true in
     record {
-      value = c.code-then-report-ne32.ensures ∙ rw (c.refused-then-report-ne32.ensures, h, n);
+      value = c.refused-then-report-ne32.ensures ∙ rw (h, n);
       ledger_after = rw (h, n);
       table_after = rw (h, n);
       report_after = rw (h, n);
@@ -54,7 +54,7 @@ returns-then-not-is_accepted c =
     let x = (scanned).1.1 in
     let no = ap is_accepted (ap own_answer (sym x) ∙ sym c.own_answer-own.ensures) ∙ sym c.is_accepted.ensures ∙ not-true _ (ap not c.if-not-is_accepted.true) in
     record {
-      value = c.code-then-not-is_accepted.ensures ∙ rw (c.own_answer-own.ensures, x, h, n);
+      value = c.code.ensures ∙ rw (c.own_answer-own.ensures, x, h, n);
       ledger_after = rw (h, n, no);
       table_after = c.scan-scanned.ensures.table_after ∙ rw (c.read-kept.ensures, h, n);
       report_after = rw (h, n, no);

@@ -13,7 +13,7 @@ returns-then-list-row c =
     let a = c.args in
     let h = le-ltb a.row (length a.list.now / 6) (omega arith) in
     record {
-      value = c.code.ensures ∙ rw (c.refused.ensures, h);
+      value = c.refused.ensures ∙ rw h;
       list_after = rw h;
     }
 
@@ -24,7 +24,7 @@ returns-then-not-is_answer c =
     let h = lt-ltb a.row (length a.list.now / 6) (omega arith) in
     let n = sym c.is_answer.ensures ∙ not-true _ (ap not c.if-not-is_answer.true) in
     record {
-      value = c.code-then-not-is_answer.ensures ∙ rw (c.refused-then-not-is_answer.ensures, h, n);
+      value = c.refused-then-not-is_answer.ensures ∙ rw (h, n);
       list_after = rw (h, n);
     }
 
@@ -35,6 +35,6 @@ returns c =
     let h = lt-ltb a.row (length a.list.now / 6) (omega arith) in
     let n = sym c.is_answer.ensures ∙ not-false _ (ap not c.if-not-is_answer.false) in
     record {
-      value = c.code-2.ensures ∙ rw (c.accepted.ensures, h, n);
+      value = c.code.ensures ∙ rw (c.accepted.ensures, h, n);
       list_after = c.copy_in.ensures.dst_after ∙ rw (c.day_row-bytes.ensures, h, n);
     }

@@ -12,7 +12,7 @@ unfolding hash_answer hash_after
 returns-then-digest-ne32 c =
     let h = ne_eqb (length c.args.digest.now) 32 c.if-digest-ne32.true in
     record {
-      value = c.code.ensures ∙ rw (c.refused.ensures, h);
+      value = c.refused.ensures ∙ rw h;
       digest_after = rw h;
     }
 
@@ -26,6 +26,6 @@ returns c =
     let m = hash_long in
     let new = done (next c.hash-sum.result _ 32 0 (omega arith) (omega arith) c.copy_in.ensures.dst_after (start a.digest.now 32 n)) in
     record {
-      value = c.code-2.ensures ∙ rw (c.accepted.ensures, h);
+      value = c.code.ensures ∙ rw (c.accepted.ensures, h);
       digest_after = new ∙ c.hash-sum.ensures ∙ rw h;
     }

@@ -12,7 +12,7 @@ unfolding judge_answer ledger_after_judge_call table_after_judge_call
 returns-then-ledger-ne-LEDGER_LENGTH c =
     let h = ne_eqb (length c.args.ledger.now) 988 c.if-ledger-ne-LEDGER_LENGTH.true in
     record {
-      value = c.code.ensures ∙ rw (c.refused.ensures, h);
+      value = c.refused.ensures ∙ rw h;
       ledger_after = rw h;
       table_after = rw h;
     }
@@ -24,7 +24,7 @@ returns c =
     let h = eq-eqb (length a.ledger.now) 988 (omega arith) in
     let d = c.judge_kept.ensures in
     record {
-      value = c.code-2.ensures ∙ rw (d.value, h);
+      value = c.code.ensures ∙ rw (c.from.ensures, d.value, h);
       ledger_after = d.kept_after ∙ rw h;
       table_after = d.table_after ∙ rw h;
     }

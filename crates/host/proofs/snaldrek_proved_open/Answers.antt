@@ -11,7 +11,7 @@ unfolding open_answer roll_after_open_call buffer_after_write
 returns-then-ledger-ne-LEDGER_LENGTH c =
     let h = ne_eqb (length c.args.ledger.now) 988 c.if-ledger-ne-LEDGER_LENGTH.true in
     record {
-      value = c.code.ensures ∙ rw (c.refused.ensures, h);
+      value = c.refused.ensures ∙ rw h;
       ledger_after = rw h;
       roll_after = rw h;
     }
@@ -21,7 +21,7 @@ unfolding open_answer roll_after_open_call
 returns c =
     let h = eq-eqb (length c.args.ledger.now) 988 (omega arith) in
     record {
-      value = c.code-2.ensures ∙ rw (c.open-opened.ensures.answer_value, h);
+      value = c.code.ensures ∙ rw (c.open-opened.ensures.answer_value, h);
       ledger_after = c.write.ensures.bytes_after ∙ rw c.open-opened.ensures.ledger_value;
       roll_after = c.open-opened.ensures.roll_after ∙ rw h;
     }

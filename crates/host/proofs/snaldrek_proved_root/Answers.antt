@@ -12,7 +12,7 @@ unfolding root_answer root_after
 returns-then-ledger-ne-LEDGER_LENGTH c =
     let h = ne_eqb (length c.args.ledger.now) 988 c.if-ledger-ne-LEDGER_LENGTH.true in
     record {
-      value = c.code.ensures ∙ rw (c.refused.ensures, h);
+      value = c.refused.ensures ∙ rw h;
       root_after = rw h;
     }
 
@@ -23,7 +23,7 @@ returns-then-root-ne32 c =
     let h = eq-eqb (length a.ledger.now) 988 (omega arith) in
     let n = ne_eqb (length a.root.now) 32 c.if-root-ne32.true in
     record {
-      value = c.code-then-root-ne32.ensures ∙ rw (c.refused-then-root-ne32.ensures, h, n);
+      value = c.refused-then-root-ne32.ensures ∙ rw (h, n);
       root_after = rw (h, n);
     }
 
@@ -37,6 +37,6 @@ returns c =
     let m = root_long in
     let new = done (next c.root-now.result _ 32 0 (omega arith) (omega arith) c.copy_in.ensures.dst_after (start a.root.now 32 n)) in
     record {
-      value = c.code-2.ensures ∙ rw (c.accepted.ensures, h, eq-eqb (length a.root.now) 32 n);
+      value = c.code.ensures ∙ rw (c.accepted.ensures, h, eq-eqb (length a.root.now) 32 n);
       root_after = new ∙ c.root-now.ensures ∙ rw (c.read-kept.ensures, h, eq-eqb (length a.root.now) 32 n);
     }

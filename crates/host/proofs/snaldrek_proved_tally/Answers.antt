@@ -19,7 +19,7 @@ unfolding tally_answer tally_after
 returns-then-tally-ne12 c =
     let h = ne_eqb (length c.args.tally.now) 12 c.if-tally-ne12.true in
     record {
-      value = c.code.ensures ∙ rw (c.refused.ensures, h);
+      value = c.refused.ensures ∙ rw h;
       tally_after = rw h;
     }
 
@@ -32,7 +32,7 @@ returns-then-not-counted c =
     let h = (counted).0 in
     let no = ap (λ (y : Tallied). y.ok) (sym (counted).1) ∙ not-true _ c.if-not-counted.true in
     record {
-      value = c.code-then-not-counted.ensures ∙ rw (c.refused-then-not-counted.ensures, h, no);
+      value = c.refused-then-not-counted.ensures ∙ rw (h, no);
       tally_after = rw (h, no);
     }
 
@@ -51,6 +51,6 @@ returns c =
     let m = bytes_long in
     let new = done (next c.tally_bytes-bytes.result _ 12 0 (omega arith) (omega arith) c.copy_in.ensures.dst_after (start a.tally.now 12 n)) in
     record {
-      value = c.code-2.ensures ∙ rw (c.accepted.ensures, h, yes);
+      value = c.code.ensures ∙ rw (c.accepted.ensures, h, yes);
       tally_after = new ∙ c.tally_bytes-bytes.ensures ∙ rw (x, h, yes);
     }

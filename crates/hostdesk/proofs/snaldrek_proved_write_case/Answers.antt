@@ -5,6 +5,6 @@ pub returns : goal.returns
 returns c =
     let w = c.write.ensures in
     record {
-      value = c.code.ensures ∙ rw w.value;
+      value = c.code.ensures ∙ rw (c.from.ensures, w.value);
       buffer_after = w.buffer_after;
     }

@@ -10,7 +10,7 @@ unfolding begin_call_answer record_after_begin_call
 returns-then-judgement-ne-JUDGEMENT_LENGTH c =
     let h = ne_eqb (length c.args.judgement.now) 4280 c.if-judgement-ne-JUDGEMENT_LENGTH.true in
     record {
-      value = c.code.ensures ∙ rw (c.refused.ensures, h);
+      value = c.refused.ensures ∙ rw h;
       judgement_after = rw h;
     }
 
@@ -20,6 +20,6 @@ returns c =
     let h = eq-eqb (length c.args.judgement.now) 4280 (omega arith) in
     let d = c.begin.ensures in
     record {
-      value = c.code-2.ensures ∙ rw (d.value, h);
+      value = c.code.ensures ∙ rw (d.value, h);
       judgement_after = d.judgement_after ∙ rw h;
     }

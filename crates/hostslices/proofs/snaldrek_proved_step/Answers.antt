@@ -10,7 +10,7 @@ unfolding step_call_answer record_after_step_call ledger_after_step_call table_a
 returns-then-ledger-ne-LEDGER_LENGTH c =
     let h = ne_eqb (length c.args.ledger.now) 988 c.if-ledger-ne-LEDGER_LENGTH.true in
     record {
-      value = c.code.ensures ∙ rw (c.refused.ensures, h);
+      value = c.refused.ensures ∙ rw h;
       judgement_after = rw h;
       ledger_after = rw h;
       table_after = rw h;
@@ -23,7 +23,7 @@ returns-then-judgement-ne-JUDGEMENT_LENGTH c =
     let h = eq-eqb (length a.ledger.now) 988 (omega arith) in
     let n = ne_eqb (length a.judgement.now) 4280 c.if-judgement-ne-JUDGEMENT_LENGTH.true in
     record {
-      value = c.code-then-judgement-ne-JUDGEMENT_LENGTH.ensures ∙ rw (c.refused-then-judgement-ne-JUDGEMENT_LENGTH.ensures, h, n);
+      value = c.refused-then-judgement-ne-JUDGEMENT_LENGTH.ensures ∙ rw (h, n);
       judgement_after = rw (h, n);
       ledger_after = rw (h, n);
       table_after = rw (h, n);
@@ -37,7 +37,7 @@ returns c =
     let j = eq-eqb (length a.judgement.now) 4280 (omega arith) in
     let d = c.step.ensures in
     record {
-      value = c.code-2.ensures ∙ rw (d.value, h, j);
+      value = c.code.ensures ∙ rw (d.value, h, j);
       judgement_after = d.judgement_after ∙ rw (h, j);
       ledger_after = d.kept_after ∙ rw (h, j);
       table_after = d.table_after ∙ rw (h, j);

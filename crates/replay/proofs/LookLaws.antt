@@ -8,18 +8,17 @@ use Rattle.text.specs.Decimal.{decimal}
 use Rattle.text.specs.Hex.{hex, hex64}
 use Rattle.text.specs.Answers.{answer_words, answer_line}
 use Rattle.refusals.specs.declared.Answer.{Answer}
-use Rattle.refusals.specs.Rules.{answer}
+use Rattle.refusals.specs.Rules.{accepted, answer, accepted}
 use Rattle.sha256.specs.Hash.{sha256_of}
 use Rattle.tree.specs.Record.{record_root}
 use Rattle.ledger.specs.declared.Ledger.{Ledger}
 use Rattle.ledger.specs.Ledgers.{room_in}
 use Rattle.seal.specs.declared.Gate.{Gate}
-use Rattle.seal.specs.declared.Read.{Read}
-use Rattle.seal.specs.declared.Read.TheVariants.{Seal, Broken}
-use Rattle.seal.specs.declared.Sealed.{Sealed}
-use Rattle.seal.specs.declared.Sealed.TheVariants.{Passed}
+use Rattle.seal.specs.declared.Reading.{Reading}
+use Rattle.std.specs.Prelude.{Result, Ok, Err}
+use Rattle.seal.specs.declared.SealRefusal.{SealRefusal}
 use Rattle.seal.specs.Body.{float_of, read_of}
-use Rattle.seal.specs.Pull.{judge_of, seal_answer}
+use Rattle.seal.specs.Pull.{judge_of, answer_for}
 use Rattle.replay.specs.Tape.{desk_line}
 use Rattle.replay.specs.Looks.{ledger_text, rows_shown, row_lines, rows_text, memory_text, pull_bits, sealed_text, read_text, seal_text}
 
@@ -49,26 +48,29 @@ pub passed_as : (a : Answer) (pull : Float) (bits : ℕ) → bits ≡ pull_bits 
 passed_as a pull bits e = rw e (simp append_assoc)
 
 -- a seal's text, by its answer
-pub passed_is : (s : Sealed) (a : Answer) (pull : Float) → s ≡ Passed pull → a ≡ seal_answer s
-    → answer_words (ascii "seal") a ++ ascii " " ++ hex64 (pull_bits pull) ++ ascii "\n" ≡ sealed_text s
+pub passed_is : (sealed : Result Float SealRefusal) (a : Answer) (pull : Float) → sealed ≡ Ok pull → a ≡ accepted
+    → answer_words (ascii "seal") a ++ ascii " " ++ hex64 (pull_bits pull) ++ ascii "\n" ≡ sealed_text sealed
 unfolding sealed_text
-passed_is s a pull e h = rw (h, e)
+passed_is sealed a pull e h = rw (h, e)
 
-pub refused_is : (s v : Sealed) (a : Answer) → s ≡ v → a ≡ seal_answer s → answer_line (ascii "seal") (seal_answer v) ≡ sealed_text v → answer_line (ascii "seal") a ≡ sealed_text s
-refused_is s v a e h k = rw (h, e) k
+pub refused_is : (sealed : Result Float SealRefusal) (a : Answer) (refusal : SealRefusal) → sealed ≡ Err refusal → a ≡ answer_for refusal
+    → answer_line (ascii "seal") a ≡ sealed_text sealed
+unfolding sealed_text
+refused_is sealed a refusal e h = rw (h, e)
 
 -- by what its bytes say
-pub seal_is : (body : List ℕ) (g o raw : Float) (gate : Gate) (read : Read) (s : Sealed) → g ≡ float_of (field 0 8 body) → o ≡ float_of (field 8 8 body)
-    → read ≡ read_of (take 25 (drop 16 body)) → read ≡ Seal gate raw → s ≡ judge_of (record { gain = g; offset = o }) gate raw → sealed_text s ≡ seal_text body
+pub seal_is : (body : List ℕ) (g o : Float) (reading : Reading) (read : Result Reading SealRefusal) (sealed : Result Float SealRefusal) → g ≡ float_of (field 0 8 body) → o ≡ float_of (field 8 8 body)
+    → read ≡ read_of (take 25 (drop 16 body)) → read ≡ Ok reading → sealed ≡ judge_of (record { gain = g; offset = o }) reading.gate reading.raw → sealed_text sealed ≡ seal_text body
 unfolding seal_text read_text
-seal_is body g o raw gate read s h i j k l =
-    let e : read_of (take 25 (drop 16 body)) ≡ Seal gate raw = sym j ∙ k in
+seal_is body g o reading read sealed h i j k l =
+    let e : read_of (take 25 (drop 16 body)) ≡ Ok reading = sym j ∙ k in
     rw (l, h, i, e)
 
-pub seal_not : (body : List ℕ) (read : Read) (a : Answer) → read ≡ read_of (take 25 (drop 16 body)) → read ≡ Broken → a ≡ answer 20 0 → answer_line (ascii "seal") a ≡ seal_text body
+pub seal_not : (body : List ℕ) (read : Result Reading SealRefusal) (a : Answer) (refusal : SealRefusal) → read ≡ read_of (take 25 (drop 16 body)) → read ≡ Err refusal → a ≡ answer_for refusal
+    → answer_line (ascii "seal") a ≡ seal_text body
 unfolding seal_text read_text
-seal_not body read a j k l =
-    let e : read_of (take 25 (drop 16 body)) ≡ Broken = sym j ∙ k in
+seal_not body read a refusal j k l =
+    let e : read_of (take 25 (drop 16 body)) ≡ Err refusal = sym j ∙ k in
     rw (l, e)
 
 -- all rows, by how many of each are shown

@@ -1,7 +1,7 @@
 -- What is printed by the entries that change nothing: a look at the ledger, at its rows, at its memory, and a seal. t and r are the lent bytes of
 -- the nullifier table and the anchor roll, l the ledger.
 -- Assumes nothing.
-use Rattle.std.specs.Prelude.{ℕ, min, cond, List, ◌++◌, length, take, drop, is_nan, to_bits, Float}
+use Rattle.std.specs.Prelude.{ℕ, min, cond, List, ◌++◌, length, take, drop, is_nan, to_bits, Float, Result, Ok, Err}
 use mathlib.Core.List.{flat_map}
 use Rattle.std.specs.Float.{binary64}
 use Rattle.octets.specs.Parts.{field}
@@ -10,18 +10,16 @@ use Rattle.text.specs.Words.{ascii}
 use Rattle.text.specs.Decimal.{decimal}
 use Rattle.text.specs.Hex.{hex, hex64}
 use Rattle.text.specs.Answers.{answer_words, answer_line}
-use Rattle.refusals.specs.Rules.{answer}
+use Rattle.refusals.specs.Rules.{accepted}
 use Rattle.sha256.specs.Hash.{sha256_of}
 use Rattle.tree.specs.Record.{record_root}
 use Rattle.ledger.specs.declared.Ledger.{Ledger}
 use Rattle.ledger.specs.Ledgers.{room_in}
 use Rattle.seal.specs.declared.Calibration.{Calibration}
-use Rattle.seal.specs.declared.Read.{Read}
-use Rattle.seal.specs.declared.Read.TheVariants.{Seal, Broken}
-use Rattle.seal.specs.declared.Sealed.{Sealed}
-use Rattle.seal.specs.declared.Sealed.TheVariants.{Passed, BadLimit, NotFinite, Outside}
+use Rattle.seal.specs.declared.Reading.{Reading}
+use Rattle.seal.specs.declared.SealRefusal.{SealRefusal}
 use Rattle.seal.specs.Body.{float_of, read_of}
-use Rattle.seal.specs.Pull.{judge_of, seal_answer}
+use Rattle.seal.specs.Pull.{judge_of, answer_for}
 
 -- THE LEDGER: its counts, its pool and its record's root
 unfoldable pub ledger_text : Ledger → List ℕ
@@ -52,15 +50,13 @@ memory_text t r l =
 unfoldable pub pull_bits : Float → ℕ
 pull_bits pull = cond (is_nan pull) 0 (to_bits binary64 pull)
 
-unfoldable pub sealed_text : Sealed → List ℕ
-sealed_text (Passed pull) = answer_words (ascii "seal") (seal_answer (Passed pull)) ++ ascii " " ++ hex64 (pull_bits pull) ++ ascii "\n"
-sealed_text BadLimit = answer_line (ascii "seal") (seal_answer BadLimit)
-sealed_text NotFinite = answer_line (ascii "seal") (seal_answer NotFinite)
-sealed_text Outside = answer_line (ascii "seal") (seal_answer Outside)
+unfoldable pub sealed_text : Result Float SealRefusal → List ℕ
+sealed_text (Ok pull) = answer_words (ascii "seal") accepted ++ ascii " " ++ hex64 (pull_bits pull) ++ ascii "\n"
+sealed_text (Err refusal) = answer_line (ascii "seal") (answer_for refusal)
 
-unfoldable pub read_text : Calibration → Read → List ℕ
-read_text c (Seal gate raw) = sealed_text (judge_of c gate raw)
-read_text c Broken = answer_line (ascii "seal") (answer 20 0)
+unfoldable pub read_text : Calibration → Result Reading SealRefusal → List ℕ
+read_text c (Ok reading) = sealed_text (judge_of c reading.gate reading.raw)
+read_text c (Err refusal) = answer_line (ascii "seal") (answer_for refusal)
 
 -- of a body: the gain (8), the offset (8) and the seal (25)
 unfoldable pub seal_text : List ℕ → List ℕ

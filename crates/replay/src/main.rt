@@ -21,7 +21,7 @@ ghost use Rattle.replay.specs.Tape.{nothing as nothing_of, running_on, can_lend,
 
 use ledger::{Answered, Ledger};
 use refusals::Answer;
-use seal::{Calibration, Read, Sealed};
+use seal::{Calibration, SealRefusal};
 use std::io;
 use tree::Tree;
 use units::Amount;
@@ -197,15 +197,12 @@ fn put_passed(out: &mut [u8], a: Answer, pull: f64) -> usize
     text::put(out, pulled, b"\n")
 }
 
-fn put_sealed(out: &mut [u8], s: Sealed) -> usize
-    ensures { Wrote 64 (sealed_text s) (pen out.old 0) (pen out.new result) }
+fn put_sealed(out: &mut [u8], sealed: Result<f64, SealRefusal>) -> usize
+    ensures { Wrote 64 (sealed_text sealed) (pen out.old 0) (pen out.new result) }
 {
-    let a = s.answer();
-    match s {
-        Sealed::Passed(pull) => put_passed(out, a, pull),
-        Sealed::BadLimit => text::put_answer_line(out, 0, b"seal", a),
-        Sealed::NotFinite => text::put_answer_line(out, 0, b"seal", a),
-        Sealed::Outside => text::put_answer_line(out, 0, b"seal", a),
+    match sealed {
+        Ok(pull) => put_passed(out, Answer::accepted(), pull),
+        Err(refusal) => text::put_answer_line(out, 0, b"seal", Answer::from(refusal)),
     }
 }
 
@@ -217,10 +214,9 @@ fn put_seal(out: &mut [u8], body: &[u8]) -> usize
         gain: seal::float_at(body, 0),
         offset: seal::float_at(body, 8),
     };
-    let read = seal::read_body(&body[16..41]);
-    match read {
-        Read::Seal(gate, raw) => put_sealed(out, seal::judge(c, gate, raw)),
-        Read::Broken => text::put_answer_line(out, 0, b"seal", Answer::refused(20, 0)),
+    match seal::read_body(&body[16..41]) {
+        Ok(reading) => put_sealed(out, seal::judge(c, reading.gate, reading.raw)),
+        Err(broken) => text::put_answer_line(out, 0, b"seal", Answer::from(broken)),
     }
 }
 
@@ -430,7 +426,7 @@ fn run_draft(
     requires { LentWithin state table.old roll.now }
     ensures { Plays (desk_on draft.now buffer.old table.old roll.now state) table.new roll.now out.old out.new result }
 {
-    let answer = desk::write(draft, &mut *buffer);
+    let answer = Answer::from(desk::write(draft, &mut *buffer));
     let told = put_desk(out, answer, buffer);
     if !answer.is_accepted() {
         return Ran { state, end: told };

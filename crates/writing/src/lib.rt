@@ -8,6 +8,7 @@ ghost use Rattle.text.specs.Pen.{pen, Wrote, Rendered};
 ghost use Rattle.writing.specs.Printed.{case_text, printed_of};
 
 use form::Formed;
+use refusals::Answer;
 
 // The desk's answer to a draft, and the case, where it is written.
 fn put_case(out: &mut [u8], draft: &[u8]) -> usize
@@ -16,7 +17,7 @@ fn put_case(out: &mut [u8], draft: &[u8]) -> usize
 {
     let n = draft.len();
     let mut room = [0u8; 4210];
-    let a = desk::write(draft, &mut room[..n]);
+    let a = Answer::from(desk::write(draft, &mut room[..n]));
     let answered = text::put_answer_line(out, 0, b"desk", a);
     if a.is_accepted() {
         return text::put(out, answered, &room[..n]);

@@ -19,14 +19,14 @@ lent n h = length-take-le n (zeros 4210) (omega (arith, h, zeros_length 4210))
 pub returns-then-is_accepted : goal.returns-then-is_accepted
 returns-then-is_accepted c =
     let n = length c.args.draft.now in
-    let f = front c.write-a.new.buffer (drop n (zeros 4210)) n (c.write-a.auto.buffer ∙ lent n c.requires) in
+    let f = front c.write.new.buffer (drop n (zeros 4210)) n (c.write.auto.buffer ∙ lent n c.requires) in
     text_as (omega (arith, f.long, c.requires))
-    (ap (λ (m : List ℕ). answer_line (ascii "desk") c.write-a.result ++ m) f.text
-    ∙ accepted_case _ _ _ _ (lent n c.requires) c.write-a.ensures.value c.write-a.ensures.buffer_after (sym c.is_accepted.ensures ∙ c.if-is_accepted.true))
+    (ap (λ (m : List ℕ). answer_line (ascii "desk") c.from-a.result ++ m) f.text
+    ∙ accepted_case _ _ _ _ (lent n c.requires) (c.from-a.ensures ∙ c.write.ensures.value) c.write.ensures.buffer_after (sym c.is_accepted.ensures ∙ c.if-is_accepted.true))
     (then c.put_answer_line-answered.ensures c.put.ensures)
 
 pub returns : goal.returns
 returns c =
     text_as (omega arith)
-    (refused_case _ _ _ _ (lent _ c.requires) c.write-a.ensures.value c.write-a.ensures.buffer_after (sym c.is_accepted.ensures ∙ c.if-is_accepted.false))
+    (refused_case _ _ _ _ (lent _ c.requires) (c.from-a.ensures ∙ c.write.ensures.value) c.write.ensures.buffer_after (sym c.is_accepted.ensures ∙ c.if-is_accepted.false))
     c.put_answer_line-answered.ensures

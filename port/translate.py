@@ -33,6 +33,11 @@ class Item:
     def is_function(self):
         return bool(self.body)
 
+    @property
+    def is_of_trait(self):
+        """A trait's function has the name of the type and of the trait before its own."""
+        return self.name.startswith("<")
+
 
 def crates_of(root):
     """The crates that have code, in the order of crates.txt."""
@@ -94,8 +99,11 @@ def items_of(text):
             items.append(Item(owner + m[3], head, body, bool(m[2]), "requires" in lines[at:end]))
             at = last + 1
             continue
-        impl = re.match(r"impl (\w+) \{", line)
-        owner = impl[1] + "::" if impl else "" if line == "}" else owner
+        impl = re.match(r"impl (?:(\w.*) for )?(\w+) \{", line)
+        if impl:
+            owner = f"<{impl[2]} as {impl[1]}>::" if impl[1] else impl[2] + "::"
+        elif line == "}":
+            owner = ""
         constant = CONSTANT.match(line)
         if constant:
             while not lines[end].endswith(";"):
@@ -220,7 +228,8 @@ def rust_of(crate, modules, items, variants, added):
 
     put("use crate::*;")
     for item in items:
-        put(plain(crate, modules, item.head))
+        head = plain(crate, modules, item.head)
+        put(re.sub(r"^(\s*)pub fn ", r"\1fn ", head) if item.is_of_trait else head)
         if not item.is_function:
             continue
         bodies = variants.get(item.name, {})

@@ -124,6 +124,20 @@ impl Draw for bool {
     }
 }
 
+impl Draw for () {
+    fn draw(_: &mut Dice) {}
+}
+
+impl<T: Draw, E: Draw> Draw for Result<T, E> {
+    fn draw(d: &mut Dice) -> Result<T, E> {
+        if d.draw() {
+            Ok(d.draw())
+        } else {
+            Err(d.draw())
+        }
+    }
+}
+
 impl Draw for f64 {
     fn draw(d: &mut Dice) -> f64 {
         let edges = [

@@ -1,4 +1,4 @@
-use Rattle.std.proofs.Common.{ℕ, [], ◌∷◌, ◌≡◌, sym, ap, ◌∙◌, get_or, refl, arith}
+use Rattle.std.proofs.Common.{ℕ, sym, ap, ◌∙◌, get_or, refl, arith}
 use mathlib.Core.Bool.{not}
 use mathlib.Core.List.{flat_map}
 use lib.Seq.{take_all}

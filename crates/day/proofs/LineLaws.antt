@@ -1,7 +1,7 @@
 -- The pieces that the calls write are the lines of the definitions; and a day, one entry more at a time.
 -- Assumes nothing.
-use Prim.Native.Nat.{ℕ, zero, suc, ◌+◌, ◌*◌, ◌≤◌, ◌<◌}
-use mathlib.Core.Path.{◌≡◌, refl, ap, ◌∙◌}
+use Prim.Native.Nat.{ℕ, ◌+◌, ◌*◌, ◌<◌}
+use mathlib.Core.Path.{◌≡◌, refl, ap, ap₂, ◌∙◌}
 use mathlib.Core.Bool.{Bool, true, false}
 use mathlib.Core.List.{List, [], ◌∷◌, ◌++◌, append_assoc, flat_map}
 use native.Mathlib.Numerals.{add-one}
@@ -18,11 +18,12 @@ use Rattle.books.specs.declared.Tallied.{Tallied}
 use Rattle.books.specs.DayList.{is_on, with_day_row}
 use Rattle.books.specs.Tally.{tally_of}
 use Rattle.day.specs.declared.Entry.{Entry}
-use Rattle.day.specs.Lines.{three_line, day_row_line, yes_or_no, enter_line, tally_line, count_line, is_pass, day_lines, last_entry, entries, both_lines}
+use Rattle.day.specs.Lines.{counted, three_line, day_row_line, yes_or_no, enter_line, tally_line, count_line, is_pass, day_lines, entries, both_lines}
 
-pub three_as : (word : List ℕ) (a b c : ℕ) → word ++ ((ascii " " ++ decimal a) ++ ((ascii " " ++ decimal b) ++ ((ascii " " ++ decimal c) ++ ascii "\n"))) ≡ three_line word a b c
+pub three_as : (word : List ℕ) (a b c : ℕ) {x y z : ℕ} → x ≡ a → y ≡ b → z ≡ c
+    → word ++ ((ascii " " ++ decimal x) ++ ((ascii " " ++ decimal y) ++ ((ascii " " ++ decimal z) ++ ascii "\n"))) ≡ three_line word a b c
 unfolding three_line
-three_as word a b c = simp append_assoc
+three_as word a b c h k l = rw (h, k, l) (simp append_assoc)
 
 pub row_as : (r : DayRow) {s a p : ℕ} → s ≡ r.seal → a ≡ r.answer → p ≡ r.place → three_line (ascii "row") s a p ≡ day_row_line r
 unfolding day_row_line
@@ -39,18 +40,6 @@ pub count_as : (c : Tallied) → ascii "count" ++ (yes_or_no c.ok ++ (ascii " " 
 unfolding count_line
 count_as c = simp append_assoc
 
--- from the seventh entry on, the last
-pub seventh : (i : ℕ) → 6 ≤ i → get_or entries i last_entry ≡ last_entry
-unfolding entries
-seventh zero h = absurd (omega arith)
-seventh (suc zero) h = absurd (omega arith)
-seventh (suc (suc zero)) h = absurd (omega arith)
-seventh (suc (suc (suc zero))) h = absurd (omega arith)
-seventh (suc (suc (suc (suc zero)))) h = absurd (omega arith)
-seventh (suc (suc (suc (suc (suc zero))))) h = absurd (omega arith)
-seventh (suc (suc (suc (suc (suc (suc zero)))))) h = refl
-seventh (suc (suc (suc (suc (suc (suc (suc i))))))) h = refl
-
 -- A DAY SO FAR: what was written for the first i of the entries es, and that with the lines of the others it is the whole
 pub record SoFar (whole : List ℕ) (es : List Entry) (i : ℕ) (rows : List DayRow) (t : Tally) (p q : Pen) : Type 0 where
   pub text : List ℕ
@@ -60,15 +49,15 @@ pub record SoFar (whole : List ℕ) (es : List Entry) (i : ℕ) (rows : List Day
 pub none_yet : {whole : List ℕ} {es : List Entry} {rows : List DayRow} {t : Tally} (p : Pen) → day_lines es rows t ≡ whole → SoFar whole es 0 rows t p p
 none_yet p h = record { text = []; wrote = start p; rest = h }
 
-pub one_entry : {whole : List ℕ} {es : List Entry} {i : ℕ} {rows rows' : List DayRow} {t : Tally} {p q r u : Pen} (e : Entry) (ok : Bool) (c : Tallied)
-    → i < length es → e ≡ get_or es i last_entry → ok ≡ is_on e.at.0 rows → rows' ≡ with_day_row e.at.0 e.row rows → c ≡ tally_of t (is_pass e)
+pub one_entry : {whole : List ℕ} {es : List Entry} {i : ℕ} {rows rows' : List DayRow} {t : Tally} {p q r u : Pen} (e d : Entry) (ok : Bool) (c : Tallied)
+    → i < length es → e ≡ get_or es i d → ok ≡ is_on e.at.0 rows → rows' ≡ with_day_row e.at.0 e.row rows → c ≡ tally_of t (is_pass e)
     → SoFar whole es i rows t p q → Wrote 31 (enter_line e.at.0 ok) q r → Wrote 79 (count_line c) r u → SoFar whole es (i + 1) rows' c.tally p u
 unfolding day_lines
-one_entry {es = es} {i = i} {rows = rows} {rows' = rows'} {t = t} e ok c h k ho hr hc s f g =
+one_entry {es = es} {i = i} {rows = rows} {rows' = rows'} {t = t} e d ok c h k ho hr hc s f g =
     let a = enter_line e.at.0 ok ++ count_line c in
     let z = day_lines (drop (i + 1) es) rows' c.tally in
-    let d : drop i es ≡ e ∷ drop (i + 1) es = rw (add-one, k) (drop-cons es i last_entry h) in
-    let step : a ++ z ≡ day_lines (drop i es) rows t = rw (d, ho, hr, hc) in
+    let next : drop i es ≡ e ∷ drop (i + 1) es = rw (add-one, k) (drop-cons es i d h) in
+    let step : a ++ z ≡ day_lines (drop i es) rows t = rw (next, ho, hr, hc) in
     record {
       text = s.text ++ a;
       wrote = text_as (omega arith) refl (then s.wrote (then f g));
@@ -85,6 +74,10 @@ no_more {es = es} {i = i} {rows = rows} {t = t} h s f g =
 pub entries_seven : length entries ≡ 7
 unfolding entries
 entries_seven = refl
+
+-- what counting in place answers and leaves, as one
+pub both_parts : {ok : Bool} {t : Tally} (c : Tallied) → (ok ≡ c.ok) × (t ≡ c.tally) → counted ok t ≡ c
+both_parts c e = ap₂ counted e.0 e.1
 
 -- a pass and then a refusal
 pub both_as : (t : Tally) {c d : Tallied} → c ≡ tally_of t true → d ≡ tally_of c.tally false → count_line c ++ count_line d ≡ both_lines t

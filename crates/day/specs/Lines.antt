@@ -18,6 +18,9 @@ row_with seal answer place = record { seal = seal; answer = answer; place = plac
 abbrev pub tally : ℕ → ℕ → ℕ → Tally
 tally seen passed refused = record { seen = seen; passed = passed; refused = refused }
 
+abbrev pub counted : Bool → Tally → Tallied
+counted ok t = record { ok = ok; tally = t }
+
 -- THE LINES: a row of the list; an entering, its row number and whether there is such a row; a tally; a counting, whether it was taken and the tally then
 unfoldable pub three_line : List ℕ → ℕ → ℕ → ℕ → List ℕ
 three_line word a b c = word ++ ascii " " ++ decimal a ++ ascii " " ++ decimal b ++ ascii " " ++ decimal c ++ ascii "\n"

@@ -4,47 +4,21 @@
 // books themselves are left to `books`.
 #![tactic(auto)]
 
-ghost use Rattle.std.specs.Prelude.{◌≡◌, ◌+◌, length, get_or};
+ghost use Rattle.std.specs.Prelude.{◌≡◌, ◌+◌, Bool, length};
 ghost use mathlib.Core.List.{flat_map};
-ghost use Rattle.text.specs.Pen.{pen, Wrote, Rendered};
+ghost use Rattle.text.specs.Pen.{Wrote, Holds};
 ghost use Rattle.books.specs.History.{empty as empty_tally};
-ghost use Rattle.books.specs.Tally.{tally_of};
-ghost use Rattle.day.specs.Lines.{row_with as row_of, tally as tally_with, three_line, day_row_line, yes_or_no, enter_line, tally_line, count_line, entry, last_entry, entries, whole_day, both_lines, from_lines, full_lines, all_lines};
-ghost use Rattle.day.specs.Page.{page_of};
+ghost use Rattle.day.specs.Lines.{tally as tally_with, counted, three_line, day_row_line, yes_or_no, enter_line, tally_line, count_line, entry, entries as entries_of, whole_day, both_lines, from_lines, full_lines, all_lines};
 
-use books::{DayRow, Tallied, Tally};
+use books::{DayRow, Tally};
+use text::Page;
 use units::Row;
-
-// A list of four rows, and what the last entry was answered.
-#[derive(Clone, Copy)]
-pub struct Page {
-    pub ok: bool,
-    pub rows: [DayRow; 4],
-}
 
 // An answer of the day, and the row that it is entered in.
 #[derive(Clone, Copy)]
 pub struct Entry {
     pub at: Row,
     pub row: DayRow,
-}
-
-// A record of this function's own is lent to the one that changes it in place.
-fn count_in_place(t: Tally, pass: bool) -> Tallied
-    ensures { result ≡ tally_of t pass }
-{
-    let mut u = t;
-    let ok = books::count(&mut u, pass);
-    Tallied { ok, tally: u }
-}
-
-// A list of this function's own is lent to the one that rewrites a row of it.
-fn enter_in_place(list: [DayRow; 4], at: Row, row: DayRow) -> Page
-    ensures { result ≡ page_of list at.0 row }
-{
-    let mut rows = list;
-    let ok = books::enter(&mut rows, at, row);
-    Page { ok, rows }
 }
 
 fn entry_at(at: usize, seal: u32, answer: u8, place: u8) -> Entry
@@ -60,105 +34,86 @@ fn entry_at(at: usize, seal: u32, answer: u8, place: u8) -> Entry
     }
 }
 
-fn nth(i: usize) -> Entry
-    ensures { result ≡ get_or entries i last_entry }
+// The answers of the day.
+fn entries() -> [Entry; 7]
+    ensures { result ≡ entries_of }
 {
-    match i {
-        0 => entry_at(0, 7001, 0, 0),
-        1 => entry_at(1, 7002, 8, 1),
-        2 => entry_at(3, 7003, 0, 0),
-        3 => entry_at(4, 7004, 0, 0),
-        4 => entry_at(1, 7005, 13, 2),
-        5 => entry_at(18446744073709551615, 7006, 23, 0),
-        _ => entry_at(2, 4294967295, 255, 255),
-    }
+    [
+        entry_at(0, 7001, 0, 0),
+        entry_at(1, 7002, 8, 1),
+        entry_at(3, 7003, 0, 0),
+        entry_at(4, 7004, 0, 0),
+        entry_at(1, 7005, 13, 2),
+        entry_at(18446744073709551615, 7006, 23, 0),
+        entry_at(2, 4294967295, 255, 255),
+    ]
 }
 
-fn wide(x: u32) -> u64
-    ensures { result ≡ x }
-{
-    x as u64
-}
-
-fn wide8(x: u8) -> u64
-    ensures { result ≡ x }
-{
-    x as u64
-}
-
-fn put_yes_or_no(out: &mut [u8], at: usize, yes: bool) -> usize
-    ensures { Wrote 4 (yes_or_no yes) (pen out.old at) (pen out.new result) }
+fn put_yes_or_no(page: &mut Page<4096>, yes: bool)
+    ensures { Wrote 4 (yes_or_no yes) page.old page.new }
 {
     if yes {
-        return text::put(out, at, b" yes");
+        page.put(b" yes");
+    } else {
+        page.put(b" no");
     }
-    text::put(out, at, b" no")
 }
 
 // A word and three numbers.
-fn put_three(out: &mut [u8], at: usize, word: &[u8], a: u64, b: u64, c: u64) -> usize
-    ensures { Wrote (length word.now + 64) (three_line word.now a b c) (pen out.old at) (pen out.new result) }
+fn put_three(page: &mut Page<4096>, word: &[u8], a: u32, b: u32, c: u32)
+    ensures { Wrote (length word.now + 64) (three_line word.now a b c) page.old page.new }
 {
-    let named = text::put(out, at, word);
-    let first = text::put_count(out, named, b" ", a);
-    let second = text::put_count(out, first, b" ", b);
-    let third = text::put_count(out, second, b" ", c);
-    text::put(out, third, b"\n")
+    page.put(word);
+    page.put_count(b" ", u64::from(a));
+    page.put_count(b" ", u64::from(b));
+    page.put_count(b" ", u64::from(c));
+    page.put(b"\n");
 }
 
-fn put_row(out: &mut [u8], at: usize, seal: u32, answer: u8, place: u8) -> usize
-    ensures { Wrote 67 (day_row_line (row_of seal answer place)) (pen out.old at) (pen out.new result) }
-{
-    put_three(out, at, b"row", wide(seal), wide8(answer), wide8(place))
-}
-
-fn put_entered(out: &mut [u8], at: usize, row: usize, ok: bool) -> usize
-    ensures { Wrote 31 (enter_line row ok) (pen out.old at) (pen out.new result) }
-{
-    let named = text::put(out, at, b"enter");
-    let numbered = text::put_count(out, named, b" ", row as u64);
-    let answered = put_yes_or_no(out, numbered, ok);
-    text::put(out, answered, b"\n")
-}
-
-fn put_entry(out: &mut [u8], at: usize, row: Row, ok: bool) -> usize
-    ensures { Wrote 31 (enter_line row.0 ok) (pen out.old at) (pen out.new result) }
-{
-    put_entered(out, at, row.index(), ok)
-}
-
-fn put_tally(out: &mut [u8], at: usize, t: Tally) -> usize
-    ensures { Wrote 69 (tally_line t) (pen out.old at) (pen out.new result) }
+fn put_row(page: &mut Page<4096>, r: DayRow)
+    ensures { Wrote 67 (day_row_line r) page.old page.new }
 {
     put_three(
-        out,
-        at,
-        b"tally",
-        wide(t.seen),
-        wide(t.passed),
-        wide(t.refused),
-    )
+        page,
+        b"row",
+        r.seal,
+        u32::from(r.answer),
+        u32::from(r.place),
+    );
 }
 
-// What was answered, and the tally as it then stands.
-fn put_counted(out: &mut [u8], at: usize, c: Tallied) -> usize
-    ensures { Wrote 79 (count_line c) (pen out.old at) (pen out.new result) }
+// The row in which an answer was to be entered, and whether there is one.
+fn put_entry(page: &mut Page<4096>, row: Row, ok: bool)
+    ensures { Wrote 31 (enter_line row.0 ok) page.old page.new }
 {
-    let named = text::put(out, at, b"count");
-    let answered = put_yes_or_no(out, named, c.ok);
-    let spaced = text::put(out, answered, b" ");
-    put_tally(out, spaced, c.tally)
+    page.put(b"enter");
+    page.put_count(b" ", row.index() as u64);
+    put_yes_or_no(page, ok);
+    page.put(b"\n");
 }
 
-fn put_list(out: &mut [u8], at: usize, rows: [DayRow; 4]) -> usize
-    ensures { Wrote 268 (flat_map day_row_line rows) (pen out.old at) (pen out.new result) }
+fn put_tally(page: &mut Page<4096>, t: Tally)
+    ensures { Wrote 69 (tally_line t) page.old page.new }
 {
-    let mut next = at;
-    for i in 0..4 {
-        let r = rows[i];
-        next = put_row(out, next, r.seal, r.answer, r.place);
+    put_three(page, b"tally", t.seen, t.passed, t.refused);
+}
+
+// Whether an answer was counted, and the tally as it then stands.
+fn put_counted(page: &mut Page<4096>, ok: bool, t: Tally)
+    ensures { Wrote 79 (count_line (counted ok t)) page.old page.new }
+{
+    page.put(b"count");
+    put_yes_or_no(page, ok);
+    page.put(b" ");
+    put_tally(page, t);
+}
+
+fn put_list(page: &mut Page<4096>, rows: &[DayRow; 4])
+    ensures { Wrote 268 (flat_map day_row_line rows.now) page.old page.new }
+{
+    for r in rows {
+        put_row(page, *r);
     }
-    next
 }
 
 fn empty() -> Tally
@@ -171,8 +126,9 @@ fn empty() -> Tally
     }
 }
 
-fn put_day(out: &mut [u8]) -> usize
-    ensures { Wrote 1107 whole_day (pen out.old 0) (pen out.new result) }
+// The day's answers, each entered and counted; then the list and the tally.
+fn put_day(page: &mut Page<4096>)
+    ensures { Wrote 1107 whole_day page.old page.new }
 {
     let none = DayRow {
         seal: 0,
@@ -181,79 +137,70 @@ fn put_day(out: &mut [u8]) -> usize
     };
     let mut rows = [none; 4];
     let mut t = empty();
-    let mut next = 0;
-    for i in 0..7 {
-        let e = nth(i);
-        let at = e.at;
-        let row = e.row;
-        let page = enter_in_place(rows, at, row);
-        rows = page.rows;
-        let entered = put_entry(out, next, at, page.ok);
-        let c = count_in_place(t, row.answer == 0);
-        t = c.tally;
-        next = put_counted(out, entered, c);
+    for e in &entries() {
+        let entered = books::enter(&mut rows, e.at, e.row);
+        put_entry(page, e.at, entered);
+        let counted = books::count(&mut t, e.row.answer == 0);
+        put_counted(page, counted, t);
     }
-    let listed = put_list(out, next, rows);
-    put_tally(out, listed, t)
+    put_list(page, &rows);
+    put_tally(page, t);
 }
 
 // A pass and then a refusal, each counted in place.
-fn put_both_in_place(out: &mut [u8], at: usize, t: Tally) -> usize
-    ensures { Wrote 158 (both_lines t) (pen out.old at) (pen out.new result) }
+fn put_both_in_place(page: &mut Page<4096>, mut t: Tally)
+    ensures { Wrote 158 (both_lines t) page.old page.new }
 {
-    let c = count_in_place(t, true);
-    let passed = put_counted(out, at, c);
-    put_counted(out, passed, count_in_place(c.tally, false))
+    let passed = books::count(&mut t, true);
+    put_counted(page, passed, t);
+    let refused = books::count(&mut t, false);
+    put_counted(page, refused, t);
 }
 
-// The same by value.
-fn put_both_by_value(out: &mut [u8], at: usize, t: Tally) -> usize
-    ensures { Wrote 158 (both_lines t) (pen out.old at) (pen out.new result) }
+// The same by value: another call of the books, whose two answers come back in one.
+fn put_both_by_value(page: &mut Page<4096>, t: Tally)
+    ensures { Wrote 158 (both_lines t) page.old page.new }
 {
-    let c = books::counted(t, true);
-    let passed = put_counted(out, at, c);
-    put_counted(out, passed, books::counted(c.tally, false))
+    let passed = books::counted(t, true);
+    put_counted(page, passed.ok, passed.tally);
+    let refused = books::counted(passed.tally, false);
+    put_counted(page, refused.ok, refused.tally);
 }
 
 // Both, from a tally of any counts.
-fn put_from(out: &mut [u8], at: usize, seen: u32, passed: u32, refused: u32) -> usize
-    ensures { Wrote 316 (from_lines (tally_with seen passed refused)) (pen out.old at) (pen out.new result) }
+fn put_from(page: &mut Page<4096>, seen: u32, passed: u32, refused: u32)
+    ensures { Wrote 316 (from_lines (tally_with seen passed refused)) page.old page.new }
 {
     let t = Tally {
         seen,
         passed,
         refused,
     };
-    let next = put_both_in_place(out, at, t);
-    put_both_by_value(out, next, t)
+    put_both_in_place(page, t);
+    put_both_by_value(page, t);
 }
 
 // Tallies that are full or nearly so.
-fn put_full(out: &mut [u8], at: usize) -> usize
-    ensures { Wrote 1264 full_lines (pen out.old at) (pen out.new result) }
+fn put_full(page: &mut Page<4096>)
+    ensures { Wrote 1264 full_lines page.old page.new }
 {
-    let seen_next = put_from(out, at, 4294967294, 4294967294, 0);
-    let seen_full = put_from(out, seen_next, 4294967295, 0, 0);
-    let passed_full = put_from(out, seen_full, 5, 4294967295, 7);
-    put_from(out, passed_full, 5, 7, 4294967295)
+    put_from(page, 4294967294, 4294967294, 0);
+    put_from(page, 4294967295, 0, 0);
+    put_from(page, 5, 4294967295, 7);
+    put_from(page, 5, 7, 4294967295);
 }
 
-fn put_all(out: &mut [u8]) -> usize
-    ensures { Wrote 2371 all_lines (pen out.old 0) (pen out.new result) }
+// All lines, on a page that has room for them.
+fn render() -> Page<4096>
+    ensures { Holds 4096 all_lines result }
 {
-    let day = put_day(out);
-    put_full(out, day)
-}
-
-// All lines, from the start of a buffer that has room for them.
-fn render(out: &mut [u8; 4096]) -> usize
-    ensures { Rendered all_lines out.old out.new result }
-{
-    put_all(out)
+    let mut page = Page::new();
+    put_day(&mut page);
+    put_full(&mut page);
+    page
 }
 
 fn main(rt: HostRuntime) {
-    let mut out = [0u8; 4096];
-    let end = render(&mut out);
-    lines::print(&rt, &out[..end]);
+    let page = render();
+    lines::print(&rt, page.text());
 }

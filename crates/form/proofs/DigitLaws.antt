@@ -6,12 +6,13 @@ use mathlib.Core.Bool.{Bool, true, false, cond, not, ◌&&◌}
 use mathlib.Core.List.{List, [], ◌∷◌}
 use native.Mathlib.Numerals.{add-one}
 use native.Mathlib.Omega.{arith}
+use Rattle.std.specs.Prelude.{Some, None}
+use Rattle.std.specs.Option.{is_some}
 use lib.Dec.{eqb, leb}
 use lib.ListN.{length, get_or, drop, drop_of_length-le}
 use lib.Seq.{drop-cons}
 use borrow.Author.Tests.{leb-true, ltb-true, le-leb, lt-leb, lt-ltb, le-ltb, eq-eqb, ne_eqb}
 use Rattle.octets.proofs.BoolLaws.{and_both}
-use Rattle.form.specs.declared.digits.Number.TheVariants.{Of, Not}
 use Rattle.form.specs.Digits.{every, is_within, is_digit, number_from, is_number, worth, is_hex_digit, is_hex, bytes_in}
 
 pub within_low : (low high x : ℕ) → is_within low high x ≡ true → low ≤ x
@@ -114,17 +115,7 @@ bytes_in_at (x ∷ y ∷ s) (suc i) h =
     let f : 2 * suc i + 1 ≡ suc (suc (2 * i + 1)) = omega arith in
     rw (f, e) (bytes_in_at s i (omega arith))
 
--- what an answer says of the digits
-pub says : (most : ℕ) (s : List ℕ) (v : ℕ) → cond (is_number most s) (Of (number_from 0 s)) Not ≡ Of v → (is_number most s ≡ true) × (number_from 0 s ≡ v)
-says most s v h = go (is_number most s) h
-  where
-    go : (b : Bool) → cond b (Of (number_from 0 s)) Not ≡ Of v → (b ≡ true) × (number_from 0 s ≡ v)
-    go true k = (refl, cc)
-    go false k = let z : ◌≡◌ {A = ℕ} 0 1 = cc in absurd (omega arith)
-
-pub says_none : (most : ℕ) (s : List ℕ) → cond (is_number most s) (Of (number_from 0 s)) Not ≡ Not → is_number most s ≡ false
-says_none most s h = go (is_number most s) h
-  where
-    go : (b : Bool) → cond b (Of (number_from 0 s)) Not ≡ Not → b ≡ false
-    go true k = let z : ◌≡◌ {A = ℕ} 0 1 = cc in absurd (omega arith)
-    go false k = refl
+-- an answer says whether the digits say a number
+pub some_if : (b : Bool) (v : ℕ) → is_some (cond b (Some v) None) ≡ b
+some_if true v = refl
+some_if false v = refl

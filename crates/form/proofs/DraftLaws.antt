@@ -9,17 +9,20 @@ use native.Mathlib.Decide.{dec_le}
 use native.Mathlib.Nat.{lt_of_not-le}
 use native.Mathlib.Omega.{arith}
 use lib.Dec.{eqb, ltb}
-use lib.ListN.{length, take, drop, length-append}
-use lib.Seq.{take_at}
+use lib.ListN.{length, take, length-append}
+use Rattle.std.specs.Prelude.{Result, Ok, Err}
 use borrow.Author.Tests.{eqb-true, ltb-false}
 use Rattle.octets.specs.Parts.{zeros}
 use Rattle.octets.proofs.NumberLaws.{little_bytes_length}
-use Rattle.octets.proofs.PartLaws.{zeros_length, pasted_is, pasted_length}
+use Rattle.octets.proofs.PartLaws.{zeros_length}
+use Rattle.text.specs.Pen.{Pen, pen, Wrote}
+use Rattle.text.proofs.PenLaws.{written_fits, rendered}
 use Rattle.casefile.specs.Layout.{description, old_note_lengths, new_note_lengths, lengths, total, case_length}
 use Rattle.casefile.specs.Fields.{has_length}
 use Rattle.form.specs.declared.fields.Kind.{Kind}
 use Rattle.form.specs.declared.fields.Kind.TheVariants.{Amount, Position, Hex, Proof}
-use Rattle.form.specs.declared.Formed.TheVariants.{Draft, Wrong, TooLong}
+use Rattle.form.specs.declared.FormError.{FormError}
+use Rattle.form.specs.declared.FormError.TheVariants.{Wrong, TooLong}
 use Rattle.form.specs.Lines.{lines_in, value_of}
 use Rattle.form.specs.Digits.{number_from, is_hex, bytes_in}
 use Rattle.form.specs.Fields.{accepts, bytes_of, size_of, fields, field_at, is_field, field_bytes}
@@ -80,92 +83,66 @@ grows k l d f h =
     (sum h (value_size t (value_of l) (accepted k l f)) w)
 
 -- what a reading says where it gives a draft
-pub record Drafted (r : Reading) (n : ℕ) : Type 0 where
-  pub long : n ≡ length r.bytes
-  pub size : (n ≡ 4210) ⊎ (n ≡ 4106)
+abbrev pub Drafted : Reading → Type 0
+Drafted r = (length r.bytes ≡ 4210) ⊎ (length r.bytes ≡ 4106)
+
+-- a fault is no draft
+pub no_draft : {A : Type 0} (e : FormError) → ◌≡◌ {A = Result (Unit {0}) FormError} (Ok tt) (Err e) → A
+no_draft e p = let z : ◌≡◌ {A = ℕ} 0 1 = cc in absurd (omega arith)
 
 -- at the end: all fields were read
-at_end : (k : ℕ) (d : List ℕ) → k ≤ 28 → Either (λ p. reach p k) (length d) → (n : ℕ) (r : Reading) (m : ℕ)
-    → r ≡ reading (cond (ltb k 28) (Wrong n k) (Draft (length d))) d → r.formed ≡ Draft m → Drafted r m
+at_end : (k : ℕ) (d : List ℕ) → k ≤ 28 → Either (λ p. reach p k) (length d) → (n : ℕ) (r : Reading)
+    → r ≡ reading (cond (ltb k 28) (Err (Wrong n k)) (Ok tt)) d → r.formed ≡ Ok tt → Drafted r
 unfolding Either reach span fields size_of
-at_end k d h e n r m p q = go (ltb k 28) refl
+at_end k d h e n r p q = go (ltb k 28) refl
   where
-    go : (b : Bool) → ltb k 28 ≡ b → Drafted r m
-    go true t =
-        let c : Draft m ≡ Wrong n k = sym q ∙ ap (λ (x : Reading). x.formed) p ∙ rw t in
-        let z : ◌≡◌ {A = ℕ} 0 1 = cc in
-        absurd (omega arith)
+    go : (b : Bool) → ltb k 28 ≡ b → Drafted r
+    go true t = no_draft (Wrong n k) (sym q ∙ ap (λ (x : Reading). x.formed) p ∙ rw t)
     go false t =
         let j : k ≡ 28 = omega (arith, ltb-false k 28 t) in
-        let c : Draft m ≡ Draft (length d) = sym q ∙ ap (λ (x : Reading). x.formed) p ∙ rw t in
-        let l : m ≡ length d = cc in
-        record {
-          long = l ∙ ap (λ (x : Reading). length x.bytes) (sym p);
-          size = ⊎_elim (λ u. inl (l ∙ u ∙ ap (reach 296) j)) (λ u. inr (l ∙ u ∙ ap (reach 192) j)) e;
-        }
+        let l : length r.bytes ≡ length d = ap (λ (x : Reading). length x.bytes) p in
+        ⊎_elim (λ u. inl (l ∙ u ∙ ap (reach 296) j)) (λ u. inr (l ∙ u ∙ ap (reach 192) j)) e
 
-sized : (n k : ℕ) (d : List ℕ) (ls : List (List ℕ)) → k ≤ 28 → Either (λ p. reach p k) (length d) → (m : ℕ) → (read_from n k d ls).formed ≡ Draft m → Drafted (read_from n k d ls) m
+sized : (n k : ℕ) (d : List ℕ) (ls : List (List ℕ)) → k ≤ 28 → Either (λ p. reach p k) (length d) → (read_from n k d ls).formed ≡ Ok tt → Drafted (read_from n k d ls)
 unfolding read_from
-sized n k d [] h e m q = at_end k d h e n _ m refl q
-sized n k d (l ∷ ls) h e m q = go (is_passed_over l) refl (is_field k l) refl (sized (n + 1) k d ls h e m) (λ f. sized (n + 1) (k + 1) (d ++ field_bytes k (value_of l)) ls (omega (arith, in_table k l f)) (grows k l d f e) m) q
+sized n k d [] h e q = at_end k d h e n _ refl q
+sized n k d (l ∷ ls) h e q = go (is_passed_over l) refl (is_field k l) refl (sized (n + 1) k d ls h e) (λ f. sized (n + 1) (k + 1) (d ++ field_bytes k (value_of l)) ls (omega (arith, in_table k l f)) (grows k l d f e)) q
   where
     go : (a : Bool) → is_passed_over l ≡ a → (b : Bool) → is_field k l ≡ b
-        → ((read_from (n + 1) k d ls).formed ≡ Draft m → Drafted (read_from (n + 1) k d ls) m)
-        → (is_field k l ≡ true → (read_from (n + 1) (k + 1) (d ++ field_bytes k (value_of l)) ls).formed ≡ Draft m → Drafted (read_from (n + 1) (k + 1) (d ++ field_bytes k (value_of l)) ls) m)
-        → (cond a (read_from (n + 1) k d ls) (cond b (read_from (n + 1) (k + 1) (d ++ field_bytes k (value_of l)) ls) (reading (Wrong n k) d))).formed ≡ Draft m
-        → Drafted (cond a (read_from (n + 1) k d ls) (cond b (read_from (n + 1) (k + 1) (d ++ field_bytes k (value_of l)) ls) (reading (Wrong n k) d))) m
+        → ((read_from (n + 1) k d ls).formed ≡ Ok tt → Drafted (read_from (n + 1) k d ls))
+        → (is_field k l ≡ true → (read_from (n + 1) (k + 1) (d ++ field_bytes k (value_of l)) ls).formed ≡ Ok tt → Drafted (read_from (n + 1) (k + 1) (d ++ field_bytes k (value_of l)) ls))
+        → (cond a (read_from (n + 1) k d ls) (cond b (read_from (n + 1) (k + 1) (d ++ field_bytes k (value_of l)) ls) (reading (Err (Wrong n k)) d))).formed ≡ Ok tt
+        → Drafted (cond a (read_from (n + 1) k d ls) (cond b (read_from (n + 1) (k + 1) (d ++ field_bytes k (value_of l)) ls) (reading (Err (Wrong n k)) d)))
     go true s b t x y w = x w
     go false s true t x y w = y t w
-    go false s false t x y w =
-        let z : ◌≡◌ {A = ℕ} 0 1 = cc in
-        absurd (omega arith)
+    go false s false t x y w = no_draft (Wrong n k) (sym w)
 
 -- THE THEOREM
-pub drafted : (s : List ℕ) (n : ℕ) → (reading_of s).formed ≡ Draft n → Drafted (reading_of s) n
+pub drafted : (s : List ℕ) → (reading_of s).formed ≡ Ok tt → Drafted (reading_of s)
 unfolding Either reach span
-drafted s n q = go (dec_le (length s) 65536)
+drafted s q = go (dec_le (length s) 65536)
   where
-    go : Dec (length s ≤ 65536) → Drafted (reading_of s) n
+    go : Dec (length s ≤ 65536) → Drafted (reading_of s)
     go (yes h) =
         let e = not_too_long s h in
-        rw e (sized 1 0 [] (lines_in s) (omega arith) (inl refl) n (ap (λ (r : Reading). r.formed) (sym e) ∙ q))
-    go (no h) =
-        let c : Draft n ≡ TooLong = sym q ∙ ap (λ (r : Reading). r.formed) (too_long s (lt_of_not-le h)) in
-        let z : ◌≡◌ {A = ℕ} 0 1 = cc in
-        absurd (omega arith)
+        rw e (sized 1 0 [] (lines_in s) (omega arith) (inl refl) (ap (λ (r : Reading). r.formed) (sym e) ∙ q))
+    go (no h) = no_draft TooLong (sym q ∙ ap (λ (r : Reading). r.formed) (too_long s (lt_of_not-le h)))
 
--- the lent buffer, of 4,210 bytes, then begins with the draft
-pub record Begins (t m : List ℕ) (n : ℕ) : Type 0 where
-  pub text : take n m ≡ t
-  pub inside : n ≤ length m
-  pub long : n ≡ length (take n m)
-  pub short : n ≤ 4210
+-- the lent page, of 4,210 bytes, then begins with the draft, where nothing stood on it
+pub record Begins (t : List ℕ) (q : Pen) : Type 0 where
+  pub text : take q.at q.page ≡ t
+  pub short : length t ≤ 4210
 
-pub begins : (s b m : List ℕ) (n : ℕ) → length b ≡ 4210 → (reading_of s).formed ≡ Draft n → m ≡ draft_after s b → Begins (reading_of s).bytes m n
+pub begins : (s b : List ℕ) (q : Pen) → length b ≡ 4210 → Wrote 4210 (reading_of s).bytes (pen b 0) q → Begins (reading_of s).bytes q
+begins s b q h w =
+    let r = rendered (omega arith) w in
+    record { text = r.text; short = w.short }
+
+pub draft_lem : (s b : List ℕ) (q : Pen) → length b ≡ 4210 → Wrote 4210 (reading_of s).bytes (pen b 0) q → q.page ≡ draft_after s b
 unfolding draft_after
-begins s b m n h q e =
-    let t = (reading_of s).bytes in
-    let d = drafted s n q in
-    let k : n ≤ 4210 = ⊎_elim (λ u. omega arith) (λ u. omega arith) d.size in
-    let l : 0 + length t ≤ length b = omega (arith, d.long) in
-    let p : m ≡ t ++ drop (0 + length t) b = e ∙ pasted_is 0 t b l in
-    let x : take n m ≡ t = ap (take n) p ∙ take_at t (drop (0 + length t) b) n (sym d.long) in
-    record {
-      text = x;
-      inside = omega (arith, ap length e, pasted_length 0 t b);
-      long = d.long ∙ ap length (sym x);
-      short = k;
-    }
+draft_lem s b q h w = ap (λ (x : Pen). x.page) (w.made ∙ written_fits _ b 0 (omega (arith, w.short)))
 
 -- so the draft has a case's length
-pub has_length_lem : (s : List ℕ) (n : ℕ) → (reading_of s).formed ≡ Draft n → has_length (reading_of s).bytes ≡ true
+pub has_length_lem : (s : List ℕ) → (reading_of s).formed ≡ Ok tt → has_length (reading_of s).bytes ≡ true
 unfolding has_length case_length lengths description old_note_lengths new_note_lengths total
-has_length_lem s n q =
-    let d = drafted s n q in
-    let l = length (reading_of s).bytes in
-    ⊎_elim
-    (λ u. let e : l ≡ 4210 = omega (arith, d.long) in
-    rw e)
-    (λ u. let e : l ≡ 4106 = omega (arith, d.long) in
-    rw e)
-    d.size
+has_length_lem s q = ⊎_elim (λ e. rw e) (λ e. rw e) (drafted s q)

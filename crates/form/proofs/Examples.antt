@@ -4,13 +4,14 @@ use mathlib.Core.Path.{◌≡◌, refl}
 use mathlib.Core.Bool.{true, false}
 use mathlib.Core.List.{[], ◌∷◌, flat_map}
 use native.Mathlib.Omega.{arith}
+use Rattle.std.specs.Prelude.{Err}
 use Rattle.octets.specs.Numbers.{little_bytes}
 use Rattle.octets.specs.Parts.{same}
 use Rattle.text.specs.Words.{ascii}
 use Rattle.text.specs.Decimal.{decimal, decimal_within}
 use Rattle.text.proofs.DecimalLaws.{decimal_within_lem}
 use Rattle.form.specs.declared.fields.Kind.TheVariants.{Amount, Position, Hex}
-use Rattle.form.specs.declared.Formed.TheVariants.{Wrong}
+use Rattle.form.specs.declared.FormError.TheVariants.{Wrong}
 use Rattle.form.specs.Lines.{is_blank, stops_at, up_to, from, with_first, lines_in, content_of, word_of, ink_of, value_of}
 use Rattle.form.specs.Digits.{every, is_within, is_digit, number_from, is_number, worth, is_hex_digit, is_hex, bytes_in}
 use Rattle.form.specs.Fields.{accepts, bytes_of, fields, field_at, is_field, field_bytes}
@@ -78,12 +79,12 @@ unfolding bytes_of number_from little_bytes
 amount = refl
 
 -- what was read of a form stands in the draft, and the first line that is wrong is told
-pub wrong_name : reading_of (ascii "# a form\nvpub_old 258\nanchor 00\n") ≡ reading (Wrong 3 1) (2 ∷ 1 ∷ 0 ∷ 0 ∷ 0 ∷ 0 ∷ 0 ∷ 0 ∷ [])
+pub wrong_name : reading_of (ascii "# a form\nvpub_old 258\nanchor 00\n") ≡ reading (Err (Wrong 3 1)) (2 ∷ 1 ∷ 0 ∷ 0 ∷ 0 ∷ 0 ∷ 0 ∷ 0 ∷ [])
 unfolding reading_of read_from is_passed_over is_field field_bytes field_at fields accepts bytes_of same lines_in with_first word_of value_of ink_of content_of up_to from stops_at is_blank is_number every is_digit is_within number_from little_bytes flat_map
 wrong_name = refl
 
 -- a text that ends too early is wrong behind its last line
-pub too_short : reading_of (ascii "\n\n") ≡ reading (Wrong 3 0) []
+pub too_short : reading_of (ascii "\n\n") ≡ reading (Err (Wrong 3 0)) []
 unfolding reading_of read_from is_passed_over lines_in with_first word_of content_of up_to from stops_at is_blank
 too_short = refl
 

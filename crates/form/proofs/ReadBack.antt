@@ -10,6 +10,7 @@ use native.Mathlib.Decide.{dec_le}
 use native.Mathlib.Nat.{lt_of_not-le, add-zero, eq-or-lt_of_le, le_of_suc-le-suc}
 use native.Mathlib.Numerals.{add-one}
 use native.Mathlib.Omega.{arith}
+use Rattle.std.specs.Prelude.{Ok, Err}
 use lib.Dec.{eqb, ltb}
 use lib.ListN.{length, get_or, drop, length-append}
 use lib.Seq.{get_or-drop, drop-drop}
@@ -20,13 +21,13 @@ use Rattle.octets.proofs.PartLaws.{zeros_length, field_left, field_right, field_
 use Rattle.casefile.specs.Layout.{description, old_note_lengths, new_note_lengths, lengths, total, case_length, proof_length, part_of}
 use Rattle.form.specs.declared.fields.Kind.{Kind}
 use Rattle.form.specs.declared.fields.Kind.TheVariants.{Amount, Position, Hex, Proof}
-use Rattle.form.specs.declared.Formed.TheVariants.{Draft, Wrong, TooLong}
+use Rattle.form.specs.declared.FormError.TheVariants.{Wrong, TooLong}
 use Rattle.form.specs.Lines.{lines_in, value_of}
 use Rattle.form.specs.Digits.{number_from}
 use Rattle.form.specs.Fields.{accepts, bytes_of, size_of, fields, field_at, is_field, field_bytes}
 use Rattle.form.specs.Forms.{Reading, reading, is_passed_over, read_from, reading_of}
 use Rattle.form.proofs.FieldLaws.{all_below, at, reach, span, next_reach, in_table, accepted}
-use Rattle.form.proofs.DraftLaws.{either, hex_size, proof_size}
+use Rattle.form.proofs.DraftLaws.{no_draft, either, hex_size, proof_size}
 use Rattle.form.proofs.ReadLaws.{whole, too_long, not_too_long}
 use Rattle.form.proofs.Places.{place, lie, ends}
 
@@ -62,29 +63,27 @@ record AllRead (a : List (List ℕ)) (k : ℕ) (r : Reading) : Type 0 where
   bytes : r.bytes ≡ joined a 28
   each : (j : ℕ) → k ≤ j → j < 28 → is_field j (get_or a j []) ≡ true
 
-at_end : (a : List (List ℕ)) (n k : ℕ) (d : List ℕ) → k ≤ 28 → d ≡ joined a k → (m : ℕ) → (b : Bool) → ltb k 28 ≡ b
-    → cond b (Wrong n k) (Draft (length d)) ≡ Draft m → AllRead a k (reading (cond b (Wrong n k) (Draft (length d))) d)
-at_end a n k d h e m true t w =
-    let z : ◌≡◌ {A = ℕ} 0 1 = cc in
-    absurd (omega arith)
-at_end a n k d h e m false t w =
+at_end : (a : List (List ℕ)) (n k : ℕ) (d : List ℕ) → k ≤ 28 → d ≡ joined a k → (b : Bool) → ltb k 28 ≡ b
+    → (reading (cond b (Err (Wrong n k)) (Ok tt)) d).formed ≡ Ok tt → AllRead a k (reading (cond b (Err (Wrong n k)) (Ok tt)) d)
+at_end a n k d h e true t w = no_draft (Wrong n k) (sym w)
+at_end a n k d h e false t w =
     let q = ltb-false k 28 t in
     let i : k ≡ 28 = omega arith in
     record { bytes = e ∙ ap (joined a) i; each = λ j u v. absurd (omega arith) }
 
-all_read : (a : List (List ℕ)) (n k : ℕ) (d : List ℕ) (ls : List (List ℕ)) → k ≤ 28 → d ≡ joined a k → counted ls ≡ drop k a → (m : ℕ)
-    → (read_from n k d ls).formed ≡ Draft m → AllRead a k (read_from n k d ls)
+all_read : (a : List (List ℕ)) (n k : ℕ) (d : List ℕ) (ls : List (List ℕ)) → k ≤ 28 → d ≡ joined a k → counted ls ≡ drop k a
+    → (read_from n k d ls).formed ≡ Ok tt → AllRead a k (read_from n k d ls)
 unfolding read_from joined
-all_read a n k d [] h e c m q = at_end a n k d h e m (ltb k 28) refl q
-all_read a n k d (l ∷ ls) h e c m q = go (is_passed_over l) refl (is_field k l) refl (λ x. all_read a (n + 1) k d ls h e x m) (λ b y x. all_read a (n + 1) (k + 1) (d ++ field_bytes k (value_of l)) ls b y x m) c q
+all_read a n k d [] h e c q = at_end a n k d h e (ltb k 28) refl q
+all_read a n k d (l ∷ ls) h e c q = go (is_passed_over l) refl (is_field k l) refl (λ x. all_read a (n + 1) k d ls h e x) (λ b y x. all_read a (n + 1) (k + 1) (d ++ field_bytes k (value_of l)) ls b y x) c q
   where
     go : (s : Bool) → is_passed_over l ≡ s → (t : Bool) → is_field k l ≡ t
-        → (counted ls ≡ drop k a → (read_from (n + 1) k d ls).formed ≡ Draft m → AllRead a k (read_from (n + 1) k d ls))
+        → (counted ls ≡ drop k a → (read_from (n + 1) k d ls).formed ≡ Ok tt → AllRead a k (read_from (n + 1) k d ls))
         → (k + 1 ≤ 28 → d ++ field_bytes k (value_of l) ≡ joined a (k + 1) → counted ls ≡ drop (k + 1) a
-        → (read_from (n + 1) (k + 1) (d ++ field_bytes k (value_of l)) ls).formed ≡ Draft m → AllRead a (k + 1) (read_from (n + 1) (k + 1) (d ++ field_bytes k (value_of l)) ls))
+        → (read_from (n + 1) (k + 1) (d ++ field_bytes k (value_of l)) ls).formed ≡ Ok tt → AllRead a (k + 1) (read_from (n + 1) (k + 1) (d ++ field_bytes k (value_of l)) ls))
         → counted (l ∷ ls) ≡ drop k a
-        → (cond s (read_from (n + 1) k d ls) (cond t (read_from (n + 1) (k + 1) (d ++ field_bytes k (value_of l)) ls) (reading (Wrong n k) d))).formed ≡ Draft m
-        → AllRead a k (cond s (read_from (n + 1) k d ls) (cond t (read_from (n + 1) (k + 1) (d ++ field_bytes k (value_of l)) ls) (reading (Wrong n k) d)))
+        → (cond s (read_from (n + 1) k d ls) (cond t (read_from (n + 1) (k + 1) (d ++ field_bytes k (value_of l)) ls) (reading (Err (Wrong n k)) d))).formed ≡ Ok tt
+        → AllRead a k (cond s (read_from (n + 1) k d ls) (cond t (read_from (n + 1) (k + 1) (d ++ field_bytes k (value_of l)) ls) (reading (Err (Wrong n k)) d)))
     go true p t f x y u w = x (sym (counted_not l ls p) ∙ u) w
     go false p true f x y u w =
         let v = next_line a k l (counted ls) (sym (counted_too l ls p) ∙ u) in
@@ -97,9 +96,7 @@ all_read a n k d (l ∷ ls) h e c m q = go (is_passed_over l) refl (is_field k l
               λ j lo hi.
               ⊎_elim (λ c. ap (λ (i : ℕ). is_field i (get_or a i [])) (sym c) ∙ ap (is_field k) v.0 ∙ f) (λ c. r.each j (omega arith) hi) (eq-or-lt_of_le lo);
         }
-    go false p false f x y u w =
-        let z : ◌≡◌ {A = ℕ} 0 1 = cc in
-        absurd (omega arith)
+    go false p false f x y u w = no_draft (Wrong n k) (sym w)
 
 -- how many bytes a value has that is no proof, whatever the edition
 is_proof : Kind → Bool
@@ -203,15 +200,12 @@ said_by s r w e =
     let f : (j : ℕ) → j < 28 → is_field j (get_or a j []) ≡ true = λ j h. w.each j (omega arith) h in
     record { lines = f; draft = λ k h. ap (part_of (place k)) (ap (λ (x : Reading). x.bytes) (sym e) ∙ w.bytes) ∙ found a f k h }
 
-pub said : (s : List ℕ) (n : ℕ) → (reading_of s).formed ≡ Draft n → Said s
+pub said : (s : List ℕ) → (reading_of s).formed ≡ Ok tt → Said s
 unfolding joined
-said s n q = go (dec_le (length s) 65536)
+said s q = go (dec_le (length s) 65536)
   where
     go : Dec (length s ≤ 65536) → Said s
     go (yes h) =
         let e = not_too_long s h in
-        said_by s (whole s) (all_read (counted (lines_in s)) 1 0 [] (lines_in s) (omega arith) refl refl n (ap (λ (r : Reading). r.formed) (sym e) ∙ q)) (sym e)
-    go (no h) =
-        let c : Draft n ≡ TooLong = sym q ∙ ap (λ (r : Reading). r.formed) (too_long s (lt_of_not-le h)) in
-        let z : ◌≡◌ {A = ℕ} 0 1 = cc in
-        absurd (omega arith)
+        said_by s (whole s) (all_read (counted (lines_in s)) 1 0 [] (lines_in s) (omega arith) refl refl (ap (λ (r : Reading). r.formed) (sym e) ∙ q)) (sym e)
+    go (no h) = no_draft TooLong (sym q ∙ ap (λ (r : Reading). r.formed) (too_long s (lt_of_not-le h)))

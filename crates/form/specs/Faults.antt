@@ -1,12 +1,12 @@
 -- What is told of a wrong form: a line of text, which names the line and the field that was expected there.
 -- Assumes nothing.
-use Rattle.std.specs.Prelude.{ℕ, cond, List, [], ◌++◌, ltb}
+use Rattle.std.specs.Prelude.{ℕ, cond, List, ◌++◌, ltb}
 use Rattle.text.specs.Words.{ascii}
 use Rattle.text.specs.Decimal.{decimal}
 use Rattle.form.specs.declared.fields.Kind.{Kind}
 use Rattle.form.specs.declared.fields.Kind.TheVariants.{Amount, Position, Hex, Proof}
-use Rattle.form.specs.declared.Formed.{Formed}
-use Rattle.form.specs.declared.Formed.TheVariants.{Draft, Wrong, TooLong}
+use Rattle.form.specs.declared.FormError.{FormError}
+use Rattle.form.specs.declared.FormError.TheVariants.{Wrong, TooLong}
 use Rattle.form.specs.Fields.{most_amount, most_position, field_count, field_at}
 
 -- what a field's value can be
@@ -24,8 +24,7 @@ field_words k =
 unfoldable pub wrong_line : ℕ → ℕ → List ℕ
 wrong_line n k = ascii "line " ++ decimal n ++ ascii ": " ++ field_words k ++ ascii "\n"
 
--- of a draft there is nothing to tell
-unfoldable pub fault_line : Formed → List ℕ
-fault_line (Draft n) = []
+-- the whole line
+unfoldable pub fault_line : FormError → List ℕ
 fault_line (Wrong n k) = wrong_line n k
 fault_line TooLong = ascii "text: more than 65536 bytes\n"

@@ -1,16 +1,10 @@
 // Digits as a number or as bytes. Which of the two a field has is left to `fields`. What is public here is for
 // this crate alone, which takes the value of digits that it asked about.
-ghost use Rattle.std.specs.Prelude.{◌≡◌, true, cond, ◌+◌, ◌*◌, ◌/◌, ◌<◌, length};
-ghost use Rattle.text.specs.Pen.{pen, Wrote};
+ghost use Rattle.std.specs.Prelude.{◌≡◌, true, cond, ◌+◌, ◌*◌, ◌/◌, ◌<◌, length, Some, None};
+ghost use Rattle.text.specs.Pen.{Wrote};
 ghost use Rattle.form.specs.Digits.{is_within, is_digit, every, number_from, is_number, worth, is_hex_digit, is_hex, bytes_in};
-ghost use Rattle.form.specs.declared.digits.Number.TheVariants.{Of, Not};
 
-// A number, or that the digits say none.
-#[derive(Clone, Copy)]
-enum Number {
-    Of(u64),
-    Not,
-}
+use text::Page;
 
 fn is_within(x: u8, low: u8, high: u8) -> bool
     ensures { result ≡ is_within low high x }
@@ -29,39 +23,36 @@ fn is_digit(x: u8) -> bool
 
 // The number that decimal digits say, where it is at most the given one. Digits that follow can only make it
 // larger.
-fn number_of(digits: &[u8], most: u64) -> Number
-    ensures { result ≡ cond (is_number most digits.now) (Of (number_from 0 digits.now)) Not }
+fn number_of(digits: &[u8], most: u64) -> Option<u64>
+    ensures { result ≡ cond (is_number most digits.now) (Some (number_from 0 digits.now)) None }
 {
     let n = digits.len();
     if n == 0 {
-        return Number::Not;
+        return None;
     }
     let mut v: u64 = 0;
     for i in 0..n {
         let x = digits[i];
         if !is_digit(x) {
-            return Number::Not;
+            return None;
         }
         let d = (x - 48) as u64;
         if most < d {
-            return Number::Not;
+            return None;
         }
         if (most - d) / 10 < v {
-            return Number::Not;
+            return None;
         }
         v = 10 * v + d;
     }
-    Number::Of(v)
+    Some(v)
 }
 
 // Whether they say one.
 pub fn is_number(digits: &[u8], most: u64) -> bool
     ensures { result ≡ is_number most digits.now }
 {
-    match number_of(digits, most) {
-        Number::Of(_) => true,
-        Number::Not => false,
-    }
+    number_of(digits, most).is_some()
 }
 
 // Which one they say.
@@ -69,10 +60,7 @@ pub fn value_of(digits: &[u8], most: u64) -> u64
     requires { is_number most digits.now ≡ true }
     ensures { result ≡ number_from 0 digits.now }
 {
-    match number_of(digits, most) {
-        Number::Of(v) => v,
-        Number::Not => 0,
-    }
+    number_of(digits, most).unwrap_or(0)
 }
 
 // What a hexadecimal digit is worth, and 16 for what is none.
@@ -115,13 +103,11 @@ fn byte_of(high: u8, low: u8) -> u8
 }
 
 // The bytes that hexadecimal digits say.
-pub fn put_bytes(out: &mut [u8], at: usize, digits: &[u8]) -> usize
+pub fn put_bytes(page: &mut Page<4210>, digits: &[u8])
     requires { every is_hex_digit digits.now ≡ true }
-    ensures { Wrote (length digits.now / 2) (bytes_in digits.now) (pen out.old at) (pen out.new result) }
+    ensures { Wrote (length digits.now / 2) (bytes_in digits.now) page.old page.new }
 {
-    let mut next = at;
     for i in 0..digits.len() / 2 {
-        next = text::put(out, next, &[byte_of(digits[2 * i], digits[2 * i + 1])]);
+        page.put(&[byte_of(digits[2 * i], digits[2 * i + 1])]);
     }
-    next
 }

@@ -4,14 +4,15 @@
 ghost use Rattle.std.specs.Prelude.{◌≡◌, true, ◌+◌, ◌≤◌, ◌<◌, length};
 ghost use Rattle.octets.specs.Numbers.{little_bytes};
 ghost use Rattle.octets.specs.Parts.{zeros, same as same_of};
-ghost use Rattle.text.specs.Pen.{pen, Wrote};
+ghost use Rattle.text.specs.Pen.{Wrote};
 ghost use Rattle.form.specs.Lines.{up_to, value_of};
 ghost use Rattle.form.specs.Fields.{accepts as accepts_of, bytes_of, size_of, field_at, is_field as is_field_of, field_bytes};
 ghost use Rattle.form.specs.declared.fields.Kind.TheVariants.{Proof};
 ghost use Rattle.form.specs.declared.lines.Stop.TheVariants.{Blank};
 
 use crate::digits::{is_hex, is_number, put_bytes, value_of};
-use crate::lines::{Stop, put_value, up_to, word};
+use crate::lines::{Stop, up_to, value, word};
+use text::Page;
 
 // What a field's value is: a number of 64 bits, one of 32 bits, so many hexadecimal digits, or the digits of the
 // proof, which has one length in each edition.
@@ -108,13 +109,13 @@ fn is_named(word: &[u8], k: usize) -> bool
     octets::same(word, &name[0..n])
 }
 
-pub fn put_name(out: &mut [u8], at: usize, k: usize) -> usize
+pub fn put_name<const N: usize>(page: &mut Page<N>, k: usize)
     requires { k < 28 }
-    ensures { Wrote 32 (field_at k).name (pen out.old at) (pen out.new result) }
+    ensures { Wrote 32 (field_at k).name page.old page.new }
 {
     let name = cell(k);
     let n = up_to(&name, Stop::Blank);
-    text::put(out, at, &name[0..n])
+    page.put(&name[0..n]);
 }
 
 // Whether the digits are a proof, of either edition.
@@ -140,24 +141,24 @@ fn accepts(kind: Kind, digits: &[u8]) -> bool
 }
 
 // A number as so many bytes.
-fn put_little(out: &mut [u8], at: usize, n: u64, width: usize) -> usize
+fn put_little(page: &mut Page<4210>, n: u64, width: usize)
     requires { width ≤ 8 }
-    ensures { Wrote width (little_bytes width n) (pen out.old at) (pen out.new result) }
+    ensures { Wrote width (little_bytes width n) page.old page.new }
 {
     let bytes = octets::le_bytes64(n);
-    text::put(out, at, &bytes[0..width])
+    page.put(&bytes[0..width]);
 }
 
 // The bytes of a value of that kind.
-fn put_digits(out: &mut [u8], at: usize, kind: Kind, digits: &[u8]) -> usize
+fn put_digits(page: &mut Page<4210>, kind: Kind, digits: &[u8])
     requires { accepts_of kind digits.now ≡ true }
-    ensures { Wrote (size_of 296 kind) (bytes_of kind digits.now) (pen out.old at) (pen out.new result) }
+    ensures { Wrote (size_of 296 kind) (bytes_of kind digits.now) page.old page.new }
 {
     match kind {
-        Kind::Amount => put_little(out, at, value_of(digits, MOST_AMOUNT), 8),
-        Kind::Position => put_little(out, at, value_of(digits, MOST_POSITION), 4),
-        Kind::Hex(_) => put_bytes(out, at, digits),
-        Kind::Proof => put_bytes(out, at, digits),
+        Kind::Amount => put_little(page, value_of(digits, MOST_AMOUNT), 8),
+        Kind::Position => put_little(page, value_of(digits, MOST_POSITION), 4),
+        Kind::Hex(_) => put_bytes(page, digits),
+        Kind::Proof => put_bytes(page, digits),
     }
 }
 
@@ -166,35 +167,28 @@ pub fn is_field(k: usize, line: &[u8]) -> bool
     requires { length line.now ≤ 65536 }
     ensures { result ≡ is_field_of k line.now }
 {
-    if COUNT <= k {
+    if COUNT <= k || !is_named(word(line), k) {
         return false;
     }
-    if !is_named(word(line), k) {
-        return false;
-    }
-    let mut digits = [0u8; 65536];
-    let n = put_value(&mut digits, line);
-    accepts(kind_of(k), &digits[..n])
+    let digits = value(line);
+    accepts(kind_of(k), digits.text())
 }
 
-fn put_zeros(out: &mut [u8], at: usize, n: usize) -> usize
+fn put_zeros(page: &mut Page<4210>, n: usize)
     requires { n ≤ 128 }
-    ensures { Wrote n (zeros n) (pen out.old at) (pen out.new result) }
+    ensures { Wrote n (zeros n) page.old page.new }
 {
     let none = [0u8; 128];
-    text::put(out, at, &none[0..n])
+    page.put(&none[0..n]);
 }
 
 // What it then adds to the case file: the bytes that are worked out, as zeros, and its own.
-pub fn put_field(out: &mut [u8], at: usize, k: usize, line: &[u8]) -> usize
+pub fn put_field(page: &mut Page<4210>, k: usize, line: &[u8])
     requires { (length line.now ≤ 65536) × (is_field_of k line.now ≡ true) }
-    ensures { Wrote ((field_at k).gap + size_of 296 (field_at k).kind) (field_bytes k (value_of line.now)) (pen out.old at) (pen out.new result) }
+    ensures { Wrote ((field_at k).gap + size_of 296 (field_at k).kind) (field_bytes k (value_of line.now)) page.old page.new }
 {
     let shape = shape_of(k);
-    let gap = shape.0;
-    let kind = shape.1;
-    let start = put_zeros(out, at, gap);
-    let mut digits = [0u8; 65536];
-    let n = put_value(&mut digits, line);
-    put_digits(out, start, kind, &digits[..n])
+    put_zeros(page, shape.0);
+    let digits = value(line);
+    put_digits(page, shape.1, digits.text());
 }

@@ -2,8 +2,10 @@
 // modules beside this one. What is public here is for this crate alone, whose lines have at most 65,536 bytes.
 ghost use Rattle.std.specs.Prelude.{◌≡◌, ◌≤◌, length};
 ghost use mathlib.Core.List.{flat_map};
-ghost use Rattle.text.specs.Pen.{pen, Wrote, Rendered};
+ghost use Rattle.text.specs.Pen.{Wrote, Holds};
 ghost use Rattle.form.specs.Lines.{is_blank, stops_at, up_to, content_of, word_of, ink_of, value_of};
+
+use text::Page;
 
 // At what a part of a text stops: a line's end, the mark of a comment, a blank, or what is no blank.
 #[derive(Clone, Copy)]
@@ -70,32 +72,25 @@ pub fn word<'a>(line: &'a [u8]) -> &'a [u8]
     &said[0..end]
 }
 
-fn put_ink(out: &mut [u8], at: usize, x: u8) -> usize
-    ensures { Wrote 1 (ink_of x) (pen out.old at) (pen out.new result) }
-{
-    if is_blank(x) {
-        return at;
-    }
-    text::put(out, at, &[x])
-}
-
 // Some bytes without their blanks.
-fn put_without_blanks(out: &mut [u8], s: &[u8]) -> usize
-    ensures { Wrote (length s.now) (flat_map ink_of s.now) (pen out.old 0) (pen out.new result) }
+fn put_without_blanks(page: &mut Page<65536>, s: &[u8])
+    ensures { Wrote (length s.now) (flat_map ink_of s.now) page.old page.new }
 {
-    let mut next = 0;
-    for i in 0..s.len() {
-        next = put_ink(out, next, s[i]);
+    for x in s {
+        if !is_blank(*x) {
+            page.put(&[*x]);
+        }
     }
-    next
 }
 
-// The value, at the start of a buffer that has room for it.
-pub fn put_value(out: &mut [u8; 65536], line: &[u8]) -> usize
+// The value, on a page that has room for it.
+pub fn value(line: &[u8]) -> Page<65536>
     requires { length line.now ≤ 65536 }
-    ensures { Rendered (value_of line.now) out.old out.new result }
+    ensures { Holds 65536 (value_of line.now) result }
 {
     let said = content(line);
     let start = up_to(said, Stop::Blank);
-    put_without_blanks(out, &said[start..])
+    let mut page = Page::new();
+    put_without_blanks(&mut page, &said[start..]);
+    page
 }

@@ -3,19 +3,10 @@
 // that these bytes are read and those are written cannot be said in a contract, so the stored run holds it.
 #![tactic(auto)]
 
-ghost use Rattle.std.specs.Prelude.{◌≡◌, length};
-
 // Room for the line and twice the longest bag: what fills it is too long, however it goes on.
-fn input_buffer() -> [u8; 131072]
-    ensures { 131072 ≡ length result }
-{
-    [0; 131072]
-}
-
 fn main(rt: HostRuntime) {
-    let mut input = input_buffer();
+    let mut input = [0u8; 131072];
     let n = lines::read_full(&mut rt.stdin(), &mut input);
-    let mut out = [0u8; 65616];
-    let end = packing::pack(&input[..n], &mut out);
-    lines::print(&rt, &out[..end]);
+    let page = packing::pack(&input[..n]);
+    lines::print(&rt, page.text());
 }

@@ -2,6 +2,7 @@
 -- cases that were put in; and no input that is refused has the line of one that is packed.
 -- Assumes nothing.
 use Rattle.std.proofs.Common.{◌≡◌, ℕ, zero, suc, ◌+◌, ◌<◌, ◌≤◌, true, false, List, ◌∷◌, ◌++◌, length, get_or, drop, sym, refl, ap, ◌∙◌, ⊎_elim, eq-or-lt_of_le, arith}
+use Rattle.std.specs.Prelude.{Ok, Err}
 use mathlib.Core.Bool.{false≢true}
 use borrow.Author.Tests.{eqb-false}
 use Rattle.octets.specs.Rows.{flat}
@@ -10,12 +11,11 @@ use Rattle.text.specs.Words.{ascii}
 use Rattle.seal.specs.declared.Read.TheVariants.{Seal}
 use Rattle.bag.specs.Contents.{laid_out, cases_of}
 use Rattle.bag.specs.SealAndCases.{seal_in}
-use Rattle.packing.specs.declared.Packing.{Packing}
-use Rattle.packing.specs.declared.Packing.TheVariants.{Packed, NoGate, TooManyCases, NoNumber, OneTooMany, NoLength, TooLong, OtherBytes}
+use Rattle.packing.specs.declared.PackingError.TheVariants.{NoGate, TooManyCases, NoNumber, OneTooMany, NoLength, TooLong, OtherBytes}
 use Rattle.packing.specs.Words.{word}
 use Rattle.packing.specs.Seals.{gate_in, raw_in, seal_of}
 use Rattle.packing.specs.Bags.{bag_of, parts}
-use Rattle.packing.specs.Packing.{line_in, bytes_in, kind_in, case_count, first_length, sizes_in, bag_in, is_fit, first_unfit, verdict_of, head_for, is_packed, packed_from, text_of}
+use Rattle.packing.specs.Packing.{line_in, bytes_in, kind_in, case_count, first_length, sizes_in, bag_in, is_fit, first_unfit, verdict_of, Verdict, head_for, is_packed, packed_from, text_by, text_of}
 use Rattle.packing.proofs.BagLaws.{laid_out_lem, seal_back, cases_back}
 use Rattle.packing.proofs.SealLaws.{line_read_back}
 use Rattle.packing.proofs.SizeLaws.{sizes_length, parts_length, parts_flat}
@@ -75,15 +75,15 @@ words_fit : (kind cases : ℕ) (line bytes : List ℕ) → is_packed (verdict_of
 words_fit kind cases line bytes h j l m = all_fit (kind + 2 + cases) kind 1 line (omega (arith, (ready kind cases line bytes h).words)) j l (omega arith)
 
 -- A REFUSAL IS NO BAG: of the text of a bag the fourth byte is a space, and of no other
-pub refused_apart : (v : Packing) (t : List ℕ) → is_packed v ≡ false → get_or (head_for v ++ t) 3 0 ≡ 32 → ⊥
-refused_apart Packed t h e = false≢true (sym h)
-refused_apart NoGate t h e = eqb-false 108 32 refl e
-refused_apart TooManyCases t h e = eqb-false 58 32 refl e
-refused_apart (NoNumber k) t h e = eqb-false 108 32 refl e
-refused_apart (OneTooMany k) t h e = eqb-false 108 32 refl e
-refused_apart (NoLength k) t h e = eqb-false 58 32 refl e
-refused_apart TooLong t h e = eqb-false 58 32 refl e
-refused_apart (OtherBytes there named) t h e = eqb-false 58 32 refl e
+pub refused_apart : (v : Verdict) (t : List ℕ) → is_packed v ≡ false → get_or (head_for v ++ t) 3 0 ≡ 32 → ⊥
+refused_apart (Ok u) t h e = false≢true (sym h)
+refused_apart (Err NoGate) t h e = eqb-false 108 32 refl e
+refused_apart (Err TooManyCases) t h e = eqb-false 58 32 refl e
+refused_apart (Err (NoNumber k)) t h e = eqb-false 108 32 refl e
+refused_apart (Err (OneTooMany k)) t h e = eqb-false 108 32 refl e
+refused_apart (Err (NoLength k)) t h e = eqb-false 58 32 refl e
+refused_apart (Err TooLong) t h e = eqb-false 58 32 refl e
+refused_apart (Err (OtherBytes there named)) t h e = eqb-false 58 32 refl e
 
 -- THE WHOLE: whatever bytes follow the line of a bag, they are a bag of what the input says
 pub record Packs (kind cases : ℕ) (line bytes b : List ℕ) : Type 0 where
@@ -113,5 +113,5 @@ packs kind cases line bytes b e =
 
 pub input_packs : (input b : List ℕ) → text_of input ≡ ascii "bag 0 0\n" ++ b
     → Packs (kind_in (line_in input)) (case_count (kind_in (line_in input)) (line_in input)) (line_in input) (bytes_in input) b
-unfolding text_of
+unfolding text_of text_by
 input_packs input b e = packs _ _ _ _ b e

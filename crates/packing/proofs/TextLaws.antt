@@ -1,25 +1,25 @@
 -- The pieces that the calls write are the texts of the definitions.
 -- Assumes nothing.
-use Rattle.std.proofs.Common.{◌≡◌, ℕ, zero, suc, ◌+◌, ◌*◌, ◌%◌, ◌≤◌, true, false, List, [], ◌∷◌, ◌++◌, length, sym, ap, ◌∙◌, ap₂, append_assoc, append-nil, arith, length-append}
+use Rattle.std.proofs.Common.{◌≡◌, ℕ, zero, suc, ◌+◌, ◌*◌, ◌%◌, ◌≤◌, List, [], ◌∷◌, ◌++◌, length, sym, ap, ◌∙◌, ap₂, append_assoc, append-nil, arith, length-append, eqb, eq-eqb, eqb-true}
+use Rattle.std.specs.Prelude.{Some, None as no_kind, Ok, Err}
+use borrow.Author.Tests.{eqb-false}
 use Rattle.octets.specs.Numbers.{little_bytes}
 use Rattle.octets.proofs.NumberLaws.{little_bytes_length, little_bytes_mod}
 use Rattle.text.specs.Words.{ascii}
-use Rattle.text.specs.Pen.{Pen, Wrote}
-use Rattle.text.proofs.PenLaws.{text_as}
 use Rattle.text.specs.Decimal.{decimal}
-use Rattle.packing.specs.declared.Packing.{Packing}
-use Rattle.packing.specs.declared.Packing.TheVariants.{OtherBytes}
+use Rattle.packing.specs.declared.PackingError.{PackingError}
+use Rattle.packing.specs.declared.PackingError.TheVariants.{NoGate, OtherBytes}
 use lib.Ieee.{Float, binary64, to_bits}
 use Rattle.octets.specs.Parts.{zeros, same}
 use Rattle.refusals.proofs.RuleLaws.{by_test}
 use Rattle.packing.specs.Words.{word}
 use Rattle.packing.specs.Decimals.{number_of}
-use Rattle.packing.specs.Seals.{float_bytes, seal_bytes, limit_bytes, kind_named, gate_in, raw_in, seal_of}
+use Rattle.packing.specs.Seals.{float_bytes, seal_bytes, limit_bytes, kind_named, gate_kind, gate_in, raw_in, seal_of}
 use Rattle.octets.specs.Rows.{flat}
 use Rattle.seal.specs.declared.Gate.{Gate}
 use Rattle.seal.specs.declared.Gate.TheVariants.{None, AtLeast, Between}
 use Rattle.packing.specs.Bags.{row, rows_from, bag_of, parts}
-use Rattle.packing.specs.Packing.{line_in, bytes_in, case_count, first_length, sizes_in, sum, bag_in, bag_length, verdict_of, head_for, is_packed, packed_from, text_of}
+use Rattle.packing.specs.Packing.{case_count, first_length, sizes_in, sum, bag_in, bag_length, verdict_of, error_line, packed_from, text_by}
 use Rattle.packing.proofs.BagLaws.{bag_length_lem}
 use Rattle.packing.proofs.SizeLaws.{sizes_length, parts_length, parts_sizes, parts_flat}
 
@@ -27,7 +27,7 @@ joined : (a b c d e : List ℕ) → (a ++ b) ++ (c ++ d ++ e) ≡ a ++ b ++ c ++
 joined a b c d e = simp append_assoc
 
 pub other_as : (there named : ℕ)
-    → (ascii "bag: the cases have " ++ decimal there) ++ (ascii " bytes, " ++ decimal named ++ ascii " were named\n") ≡ head_for (OtherBytes there named)
+    → (ascii "bag: the cases have " ++ decimal there) ++ (ascii " bytes, " ++ decimal named ++ ascii " were named\n") ≡ error_line (OtherBytes there named)
 other_as there named = joined (ascii "bag: the cases have ") (decimal there) (ascii " bytes, ") (decimal named) (ascii " were named\n")
 
 -- a row's numbers, of which four bytes hold what is left of 2^32
@@ -51,9 +51,29 @@ seal_as (suc (suc zero)) line w h e =
     rw e (ap (λ (x : List ℕ). 2 ∷ x) (sym (append_assoc (float_bytes (number_of (word 1 line))) (float_bytes (number_of (word 2 line))) (float_bytes (number_of (word 3 line))))))
 seal_as (suc (suc (suc k))) line w h e = absurd (omega arith)
 
--- a line, by the verdict that it is the line of
-pub head_as : {most : ℕ} {v w : Packing} {p q : Pen} → most ≤ 80 → v ≡ w → Wrote most (head_for w) p q → Wrote 80 (head_for v) p q
-head_as h e f = text_as h (sym (ap head_for e)) f
+-- the kind that a word names is one of three; where it names none, that is told
+kind_known : (w : List ℕ) → kind_named w ≤ 3
+unfolding kind_named
+kind_known w =
+    by_test (same w (ascii "none"))
+    (λ h. rw h (omega arith))
+    (λ h. by_test (same w (ascii "at-least"))
+    (λ k. rw (h, k) (omega arith))
+    (λ k. by_test (same w (ascii "between")) (λ l. rw (h, k, l) (omega arith)) (λ l. rw (h, k, l) (omega arith))))
+
+pub kind_of : (w : List ℕ) (kind : ℕ) → gate_kind w ≡ Some kind → (kind ≡ kind_named w) × (kind ≤ 2)
+unfolding gate_kind
+kind_of w kind h =
+    by_test (eqb (kind_named w) 3)
+    (λ e. let z : no_kind ≡ Some kind = rw e at h in let y : ◌≡◌ {A = ℕ} 0 1 = cc in absurd (omega arith))
+    (λ e. let z : Some (kind_named w) ≡ Some kind = rw e at h in let k : kind ≡ kind_named w = cc in (k, omega (arith, kind_known w, eqb-false (kind_named w) 3 e)))
+
+pub none_of : (w : List ℕ) → gate_kind w ≡ no_kind → kind_named w ≡ 3
+unfolding gate_kind
+none_of w h =
+    by_test (eqb (kind_named w) 3)
+    (λ e. eqb-true (kind_named w) 3 e)
+    (λ e. let z : Some (kind_named w) ≡ no_kind = rw e at h in let y : ◌≡◌ {A = ℕ} 0 1 = cc in absurd (omega arith))
 
 -- THE BAG
 pub float_bytes_length : (x : Float) → length (float_bytes x) ≡ 8
@@ -94,27 +114,23 @@ module _ (kind cases : ℕ) (line bytes : List ℕ) where
       omega (arith, bag_length_lem (seal ∷ cut), length-append seal (flat cut), seal_length (gate_in kind line) (raw_in kind line), bodies, rows)
 
 -- THE WHOLE TEXT, by the verdict
-module _ (kind cases : ℕ) (line bytes : List ℕ) (v : Packing) (e : v ≡ verdict_of kind cases line bytes) where
-  pub text_packed : is_packed v ≡ true → head_for v ++ bag_in kind cases line bytes ≡ packed_from kind cases line bytes
+module _ (kind cases : ℕ) (line bytes : List ℕ) where
+  pub text_packed : verdict_of kind cases line bytes ≡ Ok tt → ascii "bag 0 0\n" ++ bag_in kind cases line bytes ≡ packed_from kind cases line bytes
   unfolding packed_from
-  text_packed h = rw (sym e, h)
+  text_packed h = rw h
 
-  pub text_refused : is_packed v ≡ false → head_for v ≡ packed_from kind cases line bytes
+  pub text_refused : (e : PackingError) → verdict_of kind cases line bytes ≡ Err e → error_line e ≡ packed_from kind cases line bytes
   unfolding packed_from
-  text_refused h = rw (sym e, h) (sym (append-nil (head_for v)))
+  text_refused e h = rw h (sym (append-nil (error_line e)))
 
--- and by the pieces of the input
-pub text_as_of : (input line bytes first : List ℕ) (kind cases : ℕ) → line ≡ line_in input → bytes ≡ bytes_in input → first ≡ word 0 line → kind ≡ kind_named first
-    → cases ≡ case_count kind line → packed_from kind cases line bytes ≡ text_of input
-unfolding text_of
-text_as_of input line bytes first kind cases l b f k c = rw (c, k, f, b, l)
+-- and by the gate's name
+module _ (line bytes w : List ℕ) (f : w ≡ word 0 line) where
+  pub text_of_kind : (kind : ℕ) → gate_kind w ≡ Some kind → packed_from kind (case_count kind line) line bytes ≡ text_by line bytes
+  unfolding text_by
+  text_of_kind kind h = let k : kind ≡ kind_named (word 0 line) = (kind_of w kind h).0 ∙ ap kind_named f in rw k
 
--- the kinds that are named, and 3
-pub kind_known : (w : List ℕ) → kind_named w ≤ 3
-unfolding kind_named
-kind_known w =
-    by_test (same w (ascii "none"))
-    (λ h. rw h (omega arith))
-    (λ h. by_test (same w (ascii "at-least"))
-    (λ k. rw (h, k) (omega arith))
-    (λ k. by_test (same w (ascii "between")) (λ l. rw (h, k, l) (omega arith)) (λ l. rw (h, k, l) (omega arith))))
+  pub text_of_none : gate_kind w ≡ no_kind → error_line NoGate ≡ text_by line bytes
+  unfolding text_by verdict_of
+  text_of_none h =
+      let k : kind_named (word 0 line) ≡ 3 = sym (ap kind_named f) ∙ none_of w h in
+      text_refused (kind_named (word 0 line)) (case_count (kind_named (word 0 line)) line) line bytes NoGate (rw (eq-eqb _ 3 k))

@@ -1,6 +1,6 @@
 -- A seal's body from a gate and a raw reading, and these from words: the gate's name, its limits, the raw reading.
 -- Assumes nothing.
-use Rattle.std.specs.Prelude.{ℕ, ◌+◌, cond, List, ◌∷◌, ◌++◌, ◌==◌, nat_lt, to_bits, Float}
+use Rattle.std.specs.Prelude.{ℕ, ◌+◌, cond, List, ◌∷◌, ◌++◌, ◌==◌, nat_lt, to_bits, Float, Option, Some, None as no_kind}
 use Rattle.std.specs.Float.{binary64}
 use Rattle.octets.specs.Parts.{zeros, same}
 use Rattle.octets.specs.Numbers.{little_bytes}
@@ -23,6 +23,10 @@ seal_bytes (Between low high) raw = 2 ∷ float_bytes low ++ float_bytes high ++
 -- THE WORDS. The gate kind that a word names; 3 where it names none
 unfoldable pub kind_named : List ℕ → ℕ
 kind_named w = cond (same w (ascii "none")) 0 (cond (same w (ascii "at-least")) 1 (cond (same w (ascii "between")) 2 3))
+
+-- the kind, where the word names one
+unfoldable pub gate_kind : List ℕ → Option ℕ
+gate_kind w = cond (kind_named w == 3) no_kind (Some (kind_named w))
 
 -- how many words a seal has: its gate's name, a limit for kind 1, two for kind 2, the raw reading
 abbrev pub seal_words : ℕ → ℕ

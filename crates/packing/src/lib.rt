@@ -6,19 +6,20 @@
 ghost use Rattle.std.specs.Prelude.{◌≡◌, ◌+◌, ◌*◌, ◌^◌, ◌≤◌, true, ◌++◌, length, drop, to_bits};
 ghost use Rattle.std.specs.Float.{binary64};
 ghost use Rattle.text.specs.Decimal.{decimal};
-ghost use Rattle.text.specs.Pen.{pen, Wrote, Rendered};
+ghost use Rattle.text.specs.Pen.{Wrote, Holds};
 ghost use Rattle.packing.specs.Words.{place_of, up_to as up_to_of, behind as behind_of, counted, word as word_of, space};
 ghost use Rattle.packing.specs.Decimals.{all_digits, is_digits, is_digit, value_from, is_length, length_of, is_negative, unsigned as unsigned_of, is_unsigned, is_number, digits_of, scale_of, quotient_of, number_of};
-ghost use Rattle.packing.specs.Seals.{float_bytes, kind_named, limit_bytes, seal_of};
+ghost use Rattle.packing.specs.Seals.{float_bytes, gate_kind, limit_bytes, seal_of};
 ghost use Rattle.packing.specs.Bags.{row, rows_from};
-ghost use Rattle.packing.specs.Packing.{case_count, sizes_from, sizes_in, sum, bag_in, bag_length, is_fit, first_unfit, bytes_verdict, line_verdict, verdict_of, head_for, is_packed, packed_from, text_of};
-ghost use Rattle.packing.specs.declared.Packing.TheVariants.{OtherBytes};
+ghost use Rattle.packing.specs.Packing.{case_count, case_count as count_of, sizes_from, sizes_in, sum, bag_in, bag_length, is_fit, first_unfit, bytes_verdict, line_verdict, verdict_of, error_line, packed_from, text_by, text_of};
+ghost use Rattle.packing.specs.declared.PackingError.TheVariants.{OtherBytes};
 
-// What became of the input: a bag, or what is wrong first. A word is named by its number, counted from 1.
-// Where the cases have other bytes than were named: how many there are, and how many were named.
+use text::Page;
+
+// What is wrong with the input first. A word is named by its number, counted from 1. Where the cases have other
+// bytes than were named: how many there are, and how many were named.
 #[derive(Clone, Copy)]
-pub enum Packing {
-    Packed,
+pub enum PackingError {
     NoGate,
     TooManyCases,
     NoNumber(usize),
@@ -91,11 +92,10 @@ fn spaces(line: &[u8]) -> usize
 
 // How many words stand behind "cases".
 fn case_count(line: &[u8], kind: usize) -> usize
-    requires { kind ≤ 3 }
+    requires { kind ≤ 2 }
     ensures { result ≡ case_count kind line.now }
 {
-    let n = spaces(line);
-    if n < kind + 2 { 0 } else { n - (kind + 2) }
+    spaces(line).saturating_sub(kind + 2)
 }
 
 fn is_digit(x: u8) -> bool
@@ -118,12 +118,6 @@ fn is_digits(s: &[u8]) -> bool
     true
 }
 
-fn wide(x: u8) -> u64
-    ensures { result ≡ x }
-{
-    x as u64
-}
-
 // The number that digits write behind digits that wrote v, 15 digits in all at most.
 fn value_from(v: u64, s: &[u8]) -> u64
     requires s_value { all_digits s.now ≡ true }
@@ -132,7 +126,7 @@ fn value_from(v: u64, s: &[u8]) -> u64
 {
     let mut n = v;
     for i in 0..s.len() {
-        n = n * 10 + (wide(s[i]) - 48);
+        n = n * 10 + (u64::from(s[i]) - 48);
     }
     n
 }
@@ -248,95 +242,90 @@ fn number_bits(w: &[u8]) -> u64
     f64::to_bits(q)
 }
 
-fn put_float(out: &mut [u8], at: usize, w: &[u8]) -> usize
-    ensures { Wrote 8 (float_bytes (number_of w.now)) (pen out.old at) (pen out.new result) }
+fn put_float(page: &mut Page<65616>, w: &[u8])
+    ensures { Wrote 8 (float_bytes (number_of w.now)) page.old page.new }
 {
-    let bytes = octets::le_bytes64(number_bits(w));
-    text::put(out, at, &bytes)
+    page.put(&octets::le_bytes64(number_bits(w)));
 }
 
 // The limit in word k, which gates from kind k on use; of others zero bytes.
-fn put_limit(out: &mut [u8], at: usize, line: &[u8], kind: usize, k: usize) -> usize
+fn put_limit(page: &mut Page<65616>, line: &[u8], kind: usize, k: usize)
     requires { k ≤ 12 }
-    ensures { Wrote 8 (limit_bytes kind k line.now) (pen out.old at) (pen out.new result) }
+    ensures { Wrote 8 (limit_bytes kind k line.now) page.old page.new }
 {
     if kind < k {
-        return text::put(out, at, &[0u8; 8]);
+        page.put(&[0u8; 8]);
+    } else {
+        put_float(page, word(line, k));
     }
-    put_float(out, at, word(line, k))
 }
 
 // The seal's body.
-fn put_seal(out: &mut [u8], at: usize, line: &[u8], kind: usize) -> usize
+fn put_seal(page: &mut Page<65616>, line: &[u8], kind: usize)
     requires { kind ≤ 2 }
-    ensures { Wrote 25 (seal_of kind line.now) (pen out.old at) (pen out.new result) }
+    ensures { Wrote 25 (seal_of kind line.now) page.old page.new }
 {
-    let kinded = text::put(out, at, &[kind as u8]);
-    let low = put_limit(out, kinded, line, kind, 1);
-    let high = put_limit(out, low, line, kind, 2);
-    put_float(out, high, word(line, kind + 1))
+    page.put(&[kind as u8]);
+    put_limit(page, line, kind, 1);
+    put_limit(page, line, kind, 2);
+    put_float(page, word(line, kind + 1));
 }
 
-// The gate kind that a word names, and 3 for any other word.
-fn kind_named(w: &[u8]) -> usize
-    ensures { result ≡ kind_named w.now }
+// The kind of the gate that a word names, which is how many limits it has.
+fn kind_named(w: &[u8]) -> Option<usize>
+    ensures { result ≡ gate_kind w.now }
 {
     if octets::same(w, b"none") {
-        return 0;
+        return Some(0);
     }
     if octets::same(w, b"at-least") {
-        return 1;
+        return Some(1);
     }
     if octets::same(w, b"between") {
-        return 2;
+        return Some(2);
     }
-    3
+    None
 }
 
 // A row of the table of contents.
-fn put_row(out: &mut [u8], at: usize, kind: u8, start: usize, size: usize) -> usize
-    ensures { Wrote 9 (row kind start size) (pen out.old at) (pen out.new result) }
+fn put_row(page: &mut Page<65616>, kind: u8, start: usize, size: usize)
+    ensures { Wrote 9 (row kind start size) page.old page.new }
 {
-    let kinded = text::put(out, at, &[kind]);
-    let starts = octets::le_bytes32((start % 4294967296) as u32);
-    let started = text::put(out, kinded, &starts);
-    let sizes = octets::le_bytes32((size % 4294967296) as u32);
-    text::put(out, started, &sizes)
+    page.put(&[kind]);
+    page.put(&octets::le_bytes32((start % 4294967296) as u32));
+    page.put(&octets::le_bytes32((size % 4294967296) as u32));
 }
 
 // The rows of n cases, whose lengths stand from word k on; the first case starts at index first.
-fn put_rows(out: &mut [u8], at: usize, line: &[u8], k: usize, n: usize, first: usize) -> usize
+fn put_rows(page: &mut Page<65616>, line: &[u8], k: usize, n: usize, first: usize)
     requires n_bound { n ≤ 7 }
     requires k_bound { k ≤ 5 }
     requires first_bound { first ≤ 99 }
-    ensures { Wrote 63 (rows_from 1 first (sizes_from n k line.now)) (pen out.old at) (pen out.new result) }
+    ensures { Wrote 63 (rows_from 1 first (sizes_from n k line.now)) page.old page.new }
 {
-    let mut next = at;
     let mut start = first;
     for i in 0..n {
         let size = length_of(word(line, k + i));
-        next = put_row(out, next, 2, start, size);
+        put_row(page, 2, start, size);
         start += size;
     }
-    next
 }
 
 // The bag: count, table of contents, seal, cases.
-fn put_bag(out: &mut [u8], at: usize, line: &[u8], bytes: &[u8], kind: usize, cases: usize) -> usize
+fn put_bag(page: &mut Page<65616>, line: &[u8], bytes: &[u8], kind: usize, cases: usize)
     requires kind_bound { kind ≤ 2 }
     requires cases_bound { cases ≤ 7 }
     requires line_value { sum (sizes_in kind cases line.now) ≡ length bytes.now }
     requires bytes_bound { bag_length cases (length bytes.now) ≤ 65536 }
-    ensures { Wrote 65536 (bag_in kind cases line.now bytes.now) (pen out.old at) (pen out.new result) }
+    ensures { Wrote 65536 (bag_in kind cases line.now bytes.now) page.old page.new }
 {
     let rows = cases + 1;
     let first = 2 + 9 * rows;
-    let count = octets::le_bytes16(rows as u16);
-    let counted = text::put(out, at, &count);
-    let headed = put_row(out, counted, 1, first, 25);
-    let listed = put_rows(out, headed, line, kind + 3, cases, first + 25);
-    let sealed = put_seal(out, listed, line, kind);
-    text::put(out, sealed, bytes)
+    page.put(&octets::le_bytes16(rows as u16));
+    put_row(page, 1, first, 25);
+    put_rows(page, line, kind + 3, cases, first + 25);
+    put_seal(page, line, kind);
+    page.put(bytes);
 }
 
 // The sum of the lengths that n words from word k on say.
@@ -383,134 +372,116 @@ fn first_unfit(line: &[u8], kind: usize, n: usize) -> usize
 }
 
 // By the bytes of the cases: so many were named, so many are there.
-fn bytes_verdict(cases: usize, named: usize, there: usize) -> Packing
+fn bytes_verdict(cases: usize, named: usize, there: usize) -> Result<(), PackingError>
     requires cases_bound { cases ≤ 7 }
     requires named_bound { named ≤ 7 * 10 ^ 15 }
     ensures { result ≡ bytes_verdict cases named there }
 {
     if bag::MOST_BYTES < 2 + 9 * (cases + 1) + 25 + named {
-        return Packing::TooLong;
+        return Err(PackingError::TooLong);
     }
     if named == there {
-        return Packing::Packed;
+        return Ok(());
     }
-    Packing::OtherBytes(there, named)
+    Err(PackingError::OtherBytes(there, named))
 }
 
 // By the words of the line, and then by the bytes.
-fn line_verdict(line: &[u8], kind: usize, cases: usize, there: usize) -> Packing
+fn line_verdict(line: &[u8], kind: usize, cases: usize, there: usize) -> Result<(), PackingError>
     requires kind_bound { kind ≤ 2 }
     requires cases_bound { cases ≤ 7 }
     ensures { result ≡ line_verdict kind cases line.now there }
 {
     let k = first_unfit(line, kind, kind + 2 + cases);
     if k < kind + 2 {
-        return Packing::NoNumber(k + 1);
+        return Err(PackingError::NoNumber(k + 1));
     }
     if k == kind + 2 {
-        return Packing::OneTooMany(k + 1);
+        return Err(PackingError::OneTooMany(k + 1));
     }
     if k < kind + 3 + cases {
-        return Packing::NoLength(k + 1);
+        return Err(PackingError::NoLength(k + 1));
     }
     bytes_verdict(cases, named_bytes(line, kind + 3, cases), there)
 }
 
-// What is wrong first, if anything is.
-fn verdict(line: &[u8], bytes: &[u8], kind: usize, cases: usize) -> Packing
-    requires { kind ≤ 3 }
+// What is wrong first behind the gate's name, if anything is.
+fn verdict(line: &[u8], bytes: &[u8], kind: usize, cases: usize) -> Result<(), PackingError>
+    requires { kind ≤ 2 }
     ensures { result ≡ verdict_of kind cases line.now bytes.now }
 {
-    if kind == 3 {
-        return Packing::NoGate;
-    }
     if 7 < cases {
-        return Packing::TooManyCases;
+        return Err(PackingError::TooManyCases);
     }
     line_verdict(line, kind, cases, bytes.len())
 }
 
 // A sentence with a number in it.
-fn put_sentence(out: &mut [u8], at: usize, before: &[u8], n: usize, behind: &[u8]) -> usize
-    ensures { Wrote (length before.now + 20 + length behind.now) (before.now ++ decimal n ++ behind.now) (pen out.old at) (pen out.new result) }
+fn put_sentence(page: &mut Page<65616>, before: &[u8], n: usize, behind: &[u8])
+    ensures { Wrote (length before.now + 20 + length behind.now) (before.now ++ decimal n ++ behind.now) page.old page.new }
 {
-    let next = text::put_count(out, at, before, n as u64);
-    text::put(out, next, behind)
+    page.put_count(before, n as u64);
+    page.put(behind);
 }
 
-fn put_other_bytes(out: &mut [u8], there: usize, named: usize) -> usize
-    ensures { Wrote 80 (head_for (OtherBytes there named)) (pen out.old 0) (pen out.new result) }
+fn put_other_bytes(page: &mut Page<65616>, there: usize, named: usize)
+    ensures { Wrote 80 (error_line (OtherBytes there named)) page.old page.new }
 {
-    let had = text::put_count(out, 0, b"bag: the cases have ", there as u64);
-    put_sentence(out, had, b" bytes, ", named, b" were named\n")
+    page.put_count(b"bag: the cases have ", there as u64);
+    put_sentence(page, b" bytes, ", named, b" were named\n");
 }
 
-// The first line.
-fn put_head(out: &mut [u8], v: Packing) -> usize
-    ensures { Wrote 80 (head_for v) (pen out.old 0) (pen out.new result) }
+// The line that says what is wrong.
+fn put_error(page: &mut Page<65616>, e: PackingError)
+    ensures { Wrote 80 (error_line e) page.old page.new }
 {
-    match v {
-        Packing::Packed => text::put(out, 0, b"bag 0 0\n"),
-        Packing::NoGate => {
-            text::put(
-                out,
-                0,
-                b"seal: word 1 is no gate: none, at-least or between\n",
-            )
+    match e {
+        PackingError::NoGate => page.put(b"seal: word 1 is no gate: none, at-least or between\n"),
+        PackingError::TooManyCases => page.put(b"bag: more than 7 cases\n"),
+        PackingError::NoNumber(k) => put_sentence(page, b"seal: word ", k, b" is no number\n"),
+        PackingError::OneTooMany(k) => put_sentence(
+            page,
+            b"seal: word ",
+            k,
+            b" is one too many: 'cases' comes there\n",
+        ),
+        PackingError::NoLength(k) => put_sentence(page, b"bag: word ", k, b" is no length\n"),
+        PackingError::TooLong => page.put(b"bag: more than 65536 bytes\n"),
+        PackingError::OtherBytes(there, named) => put_other_bytes(page, there, named),
+    }
+}
+
+// With a gate that has a name: the first line, and behind it the bag, if there is one.
+fn put_packed(page: &mut Page<65616>, line: &[u8], bytes: &[u8], kind: usize)
+    requires { kind ≤ 2 }
+    ensures { Wrote 65616 (packed_from kind (count_of kind line.now) line.now bytes.now) page.old page.new }
+{
+    let cases = case_count(line, kind);
+    match verdict(line, bytes, kind, cases) {
+        Ok(()) => {
+            page.put(b"bag 0 0\n");
+            put_bag(page, line, bytes, kind, cases);
         }
-        Packing::TooManyCases => text::put(out, 0, b"bag: more than 7 cases\n"),
-        Packing::NoNumber(k) => put_sentence(out, 0, b"seal: word ", k, b" is no number\n"),
-        Packing::OneTooMany(k) => {
-            put_sentence(
-                out,
-                0,
-                b"seal: word ",
-                k,
-                b" is one too many: 'cases' comes there\n",
-            )
-        }
-        Packing::NoLength(k) => put_sentence(out, 0, b"bag: word ", k, b" is no length\n"),
-        Packing::TooLong => text::put(out, 0, b"bag: more than 65536 bytes\n"),
-        Packing::OtherBytes(there, named) => put_other_bytes(out, there, named),
+        Err(e) => put_error(page, e),
     }
 }
 
-fn is_packed(v: Packing) -> bool
-    ensures { result ≡ is_packed v }
+// The same, or a line that says that the gate has no name.
+fn put_text(page: &mut Page<65616>, line: &[u8], bytes: &[u8])
+    ensures { Wrote 65616 (text_by line.now bytes.now) page.old page.new }
 {
-    match v {
-        Packing::Packed => true,
-        Packing::NoGate => false,
-        Packing::TooManyCases => false,
-        Packing::NoNumber(_) => false,
-        Packing::OneTooMany(_) => false,
-        Packing::NoLength(_) => false,
-        Packing::TooLong => false,
-        Packing::OtherBytes(_, _) => false,
+    match kind_named(word(line, 0)) {
+        Some(kind) => put_packed(page, line, bytes, kind),
+        None => put_error(page, PackingError::NoGate),
     }
-}
-
-// The first line, and behind it the bag, if there is one.
-fn put_text(out: &mut [u8], line: &[u8], bytes: &[u8], kind: usize, cases: usize) -> usize
-    requires { kind ≤ 3 }
-    ensures { Wrote 65616 (packed_from kind cases line.now bytes.now) (pen out.old 0) (pen out.new result) }
-{
-    let v = verdict(line, bytes, kind, cases);
-    let headed = put_head(out, v);
-    if is_packed(v) {
-        return put_bag(out, headed, line, bytes, kind, cases);
-    }
-    headed
 }
 
 // Packs a bag from a line of words and the bytes of cases behind it, or says in one line what is wrong. The
-// buffer has room for the longest line and the longest bag; what lies behind the text is as it was.
-pub fn pack(input: &[u8], out: &mut [u8; 65616]) -> usize
-    ensures { Rendered (text_of input.now) out.old out.new result }
+// page has room for the longest line and the longest bag.
+pub fn pack(input: &[u8]) -> Page<65616>
+    ensures { Holds 65616 (text_of input.now) result }
 {
-    let line = up_to(input, b'\n');
-    let bytes = behind(input, b'\n');
-    let kind = kind_named(word(line, 0));
-    let cases = case_count(line, kind);
-    put_text(out, line, bytes, kind, cases)
+    let mut page = Page::new();
+    put_text(&mut page, up_to(input, b'\n'), behind(input, b'\n'));
+    page
 }

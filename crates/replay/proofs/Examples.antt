@@ -10,18 +10,19 @@ use Rattle.ledger.specs.declared.Ledger.{Ledger}
 use Rattle.ledger.specs.Ledgers.{room_in, open_refusals}
 use Rattle.judge.specs.Judging.{answer_of}
 use Rattle.replay.specs.declared.State.{State}
-use Rattle.replay.specs.declared.Next.TheVariants.{End, Broken}
+use Rattle.replay.specs.declared.Broken.{Broken}
+use Rattle.std.specs.Prelude.{None, Ok, Err}
 use Rattle.replay.specs.Tape.{broken_turn, plant_on, case_on, fresh_on, next_turn}
 
-pub broken : (b t r : List ℕ) (s : State) → (next_turn Broken b t r s).text ≡ ascii "tape 50 0\n"
+pub broken : (e : Broken) (b t r : List ℕ) (s : State) → (next_turn (Err e) b t r s).text ≡ ascii "tape 50 0\n"
 unfolding next_turn broken_turn answer_line answer_words decimal decimal_within
-broken b t r s = refl
+broken e b t r s = refl
 
 pub planted : (n m : ℕ) (body t r : List ℕ) → (plant_on n m body t r).text ≡ ascii "plant 0 0\n"
 unfolding plant_on answer_line answer_words decimal decimal_within
 planted n m body t r = refl
 
-pub end : (b t r : List ℕ) (s : State) → (next_turn End b t r s).text ≡ []
+pub end : (b t r : List ℕ) (s : State) → (next_turn (Ok None) b t r s).text ≡ []
 unfolding next_turn
 end b t r s = refl
 

@@ -5,7 +5,7 @@ use borrow.Author.Tests.{lt-leb}
 use Rattle.text.specs.Words.{name_line}
 use Rattle.replay.specs.declared.State.{State}
 use Rattle.replay.specs.Looks.{ledger_text, rows_text, memory_text, seal_text}
-use Rattle.replay.specs.Tape.{turn_of, broken_turn, open_turn, plant_turn, table_turn, roll_turn, lay_turn, case_turn, desk_turn, fresh_turn, block_turn, look_turn, bare_turn, seal_turn, name_turn, entry_turn}
+use Rattle.replay.specs.Tape.{turn_of, broken_turn, open_turn, plant_turn, table_turn, roll_turn, lay_turn, case_turn, desk_turn, fresh_turn, block_turn, look_turn, bare_turn, seal_turn, name_turn, other_turn, entry_turn}
 
 -- a name that is short enough, and one that is not
 module _ (body t r : List ℕ) (s : State) where
@@ -59,26 +59,33 @@ module _ (kind : ℕ) (t r : List ℕ) (s : State) where
     unfolding entry_turn
     entry_desk h = rw h
 
-    pub entry_seal : kind ≡ 83 → length body ≡ 41 → turn_of s t r (seal_text body) ≡ entry_turn kind body t r s
-    unfolding entry_turn seal_turn
-    entry_seal h k = rw (h, k)
+    pub entry_seal : kind ≡ 83 → seal_turn body t r s ≡ entry_turn kind body t r s
+    unfolding entry_turn
+    entry_seal h = rw h
 
-    pub entry_no_seal : kind ≡ 83 → (length body ≡ 41 → ⊥) → broken_turn t r ≡ entry_turn kind body t r s
-    unfolding entry_turn seal_turn
-    entry_no_seal h k = rw (h, ne_eqb (length body) 41 k)
+    pub seal_whole : length body ≡ 41 → turn_of s t r (seal_text body) ≡ seal_turn body t r s
+    unfolding seal_turn
+    seal_whole h = rw h
+
+    pub seal_broken : (length body ≡ 41 → ⊥) → broken_turn t r ≡ seal_turn body t r s
+    unfolding seal_turn
+    seal_broken h = rw (ne_eqb (length body) 41 h)
 
     pub entry_name : kind ≡ 78 → name_turn body t r s ≡ entry_turn kind body t r s
     unfolding entry_turn
     entry_name h = rw h
 
-    module _ (o : kind ≡ 79 → ⊥) (c : kind ≡ 67 → ⊥) (d : kind ≡ 68 → ⊥) (z : kind ≡ 83 → ⊥) (n : kind ≡ 78 → ⊥) where
-      pub entry_bare : length body ≡ 0 → bare_turn kind t r s ≡ entry_turn kind body t r s
-      unfolding entry_turn
-      entry_bare h = rw (ne_eqb kind 79 o, ne_eqb kind 67 c, ne_eqb kind 68 d, ne_eqb kind 83 z, ne_eqb kind 78 n, h)
+    pub entry_other : (kind ≡ 79 → ⊥) → (kind ≡ 67 → ⊥) → (kind ≡ 68 → ⊥) → (kind ≡ 83 → ⊥) → (kind ≡ 78 → ⊥) → other_turn kind body t r s ≡ entry_turn kind body t r s
+    unfolding entry_turn
+    entry_other o c d z n = rw (ne_eqb kind 79 o, ne_eqb kind 67 c, ne_eqb kind 68 d, ne_eqb kind 83 z, ne_eqb kind 78 n)
 
-      pub entry_lay : (length body ≡ 0 → ⊥) → lay_turn kind body t r s ≡ entry_turn kind body t r s
-      unfolding entry_turn
-      entry_lay h = rw (ne_eqb kind 79 o, ne_eqb kind 67 c, ne_eqb kind 68 d, ne_eqb kind 83 z, ne_eqb kind 78 n, ne_eqb (length body) 0 h)
+    pub other_bare : length body ≡ 0 → bare_turn kind t r s ≡ other_turn kind body t r s
+    unfolding other_turn
+    other_bare h = rw h
+
+    pub other_lay : (length body ≡ 0 → ⊥) → lay_turn kind body t r s ≡ other_turn kind body t r s
+    unfolding other_turn
+    other_lay h = rw (ne_eqb (length body) 0 h)
 
     pub lay_given : kind ≡ 80 → plant_turn true body t r ≡ lay_turn kind body t r s
     unfolding lay_turn

@@ -1,5 +1,5 @@
 -- What a run of an entry's calls leaves and writes is the turn of the definition. n and m are the bytes lent of the buffers t and r, p and q what the
--- calls left in them, x and x' the page before and after, s the state that is answered and e the text's end.
+-- calls left in them, x and x' the page before and after, and s the state that is answered.
 -- Assumes nothing.
 use Rattle.std.proofs.Common.{◌≡◌, ℕ, zero, suc, ◌+◌, ◌%◌, ◌^◌, ◌<◌, ◌≤◌, Bool, true, false, cond, eqb, leb, List, ◌∷◌, ◌++◌, length, take, drop, replicate, sym, refl, ap, ◌∙◌, subst, add-one, arith, length-append, length-take-le, take_at, drop_at, eqb-true, le-leb, leb-true}
 use borrow.Author.Tests.{lt-leb}
@@ -8,7 +8,7 @@ use Rattle.octets.specs.Parts.{zeros, field}
 use Rattle.octets.proofs.PartLaws.{zeros_length, field_length}
 use Rattle.text.specs.Words.{ascii}
 use Rattle.text.specs.Answers.{answer_line, answer_and_row}
-use Rattle.text.specs.Pen.{pen, Wrote}
+use Rattle.text.specs.Pen.{Pen, Wrote}
 use Rattle.text.proofs.PenLaws.{then, text_as}
 use Rattle.refusals.specs.declared.Answer.{Answer}
 use Rattle.refusals.specs.Rules.{answer, accepted, is_accepted, first}
@@ -20,12 +20,11 @@ use Rattle.desk.specs.Drafts.{desk_answer, buffer_after}
 use Rattle.ledgerbytes.specs.LedgerBytes.{ledger_of}
 use Rattle.judge.specs.Judging.{table_after_case, judged_of}
 use Rattle.replay.specs.declared.State.{State}
-use Rattle.replay.specs.declared.Ran.{Ran}
 use Rattle.replay.specs.Tape.{Turn, turn_of, running_on, nothing, broken_turn, longest, can_lend, lends, open_on, open_turn, plant_on, plant_length, plant_turn, row_laid, rows_laid, laid_by, can_lay, table_turn, roll_turn, case_on, case_turn, desk_most, desk_line, behind, desk_on, can_draft, desk_turn, fresh_on, fresh_turn, block_on, block_turn, LentWithin, Plays}
 
 -- the same turn by another name
-pub plays_as : {u v : Turn} {t r x x' : List ℕ} {a : Ran} → u ≡ v → Plays u t r x x' a → Plays v t r x x' a
-plays_as {t = t} {r = r} {x = x} {x' = x'} {a = a} e h = subst (λ (w : Turn). Plays w t r x x' a) e h
+pub plays_as : {u v : Turn} {t r : List ℕ} {x x' : Pen} {s : State} → u ≡ v → Plays u t r x x' s → Plays v t r x x' s
+plays_as {t = t} {r = r} {x = x} {x' = x'} {s = s} e h = subst (λ (w : Turn). Plays w t r x x' s) e h
 
 -- what lies within, of the same state by another name; and of a state with no bytes lent
 pub within_as : {s z : State} {t r : List ℕ} → s ≡ z → LentWithin z t r → LentWithin s t r
@@ -35,12 +34,12 @@ pub nowhere : (on : Bool) (t r : List ℕ) → LentWithin (nothing on) t r
 nowhere on t r = record { table = omega arith; roll = omega arith }
 
 -- a turn by its state and its text
-pub plays : {b e : ℕ} {s z : State} {t r x x' y : List ℕ} → b ≤ longest → s ≡ z → LentWithin z t r → Wrote b y (pen x 0) (pen x' e)
-    → Plays (turn_of z t r y) t r x x' (record { state = s; end = e })
+pub plays : {b : ℕ} {s z : State} {t r y : List ℕ} {x x' : Pen} → b ≤ longest → s ≡ z → LentWithin z t r → Wrote b y x x'
+    → Plays (turn_of z t r y) t r x x' s
 plays h k i w = record { state = k; table = refl; roll = refl; text = text_as h refl w; within = within_as k i }
 
 -- what is no entry
-pub plays_broken : {t r x x' : List ℕ} {a : Ran} → a.state ≡ nothing false → Wrote 47 (answer_line (ascii "tape") (answer 50 0)) (pen x 0) (pen x' a.end) → Plays (broken_turn t r) t r x x' a
+pub plays_broken : {t r : List ℕ} {x x' : Pen} {s : State} → s ≡ nothing false → Wrote 47 (answer_line (ascii "tape") (answer 50 0)) x x' → Plays (broken_turn t r) t r x x' s
 unfolding broken_turn
 plays_broken {t} {r} h k = plays (omega arith) h (nowhere false t r) k
 
@@ -63,13 +62,13 @@ still : (n : ℕ) (p t : List ℕ) → length p ≡ n → n ≤ length (p ++ dro
 still n p t h = omega (arith, length-append p (drop n t))
 
 -- O
-pub open_plays : (body t r p q x x' : List ℕ) (n m e : ℕ) (b : Bool) (a : Answered) (s : State) → n ≡ little (field 0 4 body) → m ≡ little (field 4 4 body)
+pub open_plays : (body t r p q : List ℕ) (x x' : Pen) (n m : ℕ) (b : Bool) (a : Answered) (s : State) → n ≡ little (field 0 4 body) → m ≡ little (field 4 4 body)
     → b ≡ can_lend (eqb (length body) 8) n m (length t) (length r) → b ≡ true → a.answer ≡ first (open_refusals (zeros (length (take m r))))
     → a.ledger ≡ opened_of (zeros (length (take m r))) → p ≡ zeros (length (take n t)) → q ≡ roll_after_open (zeros (length (take m r))) → length q ≡ length (take m r)
-    → Wrote 47 (answer_line (ascii "open") a.answer) (pen x 0) (pen x' e) → s ≡ running_on a.ledger n m
-    → Plays (open_turn body t r) (p ++ drop n t) (q ++ drop m r) x x' (record { state = s; end = e })
+    → Wrote 47 (answer_line (ascii "open") a.answer) x x' → s ≡ running_on a.ledger n m
+    → Plays (open_turn body t r) (p ++ drop n t) (q ++ drop m r) x x' s
 unfolding open_turn open_on fresh_on
-open_plays body t r p q x x' n m e b a s hn hm hb h ha hl hp hq hk w hs =
+open_plays body t r p q x x' n m b a s hn hm hb h ha hl hp hq hk w hs =
     let i : length (take n t) ≡ n = length-take-le n t (lent_table _ n m _ _ hb h) in
     let j : length (take m r) ≡ m = length-take-le m r (lent_roll _ n m _ _ hb h) in
     let d : open_on n m t r ≡ open_turn body t r = lends_by _ _ t r hn hm hb h in
@@ -79,13 +78,13 @@ open_plays body t r p q x x' n m e b a s hn hm hb h ha hl hp hq hk w hs =
     plays_as (v ∙ d) (plays (omega arith) hs (record { table = still n p t (ap length hp ∙ zeros_length _ ∙ i); roll = still m q r (hk ∙ j) }) w)
 
 -- P and K
-pub plant_plays : (given : Bool) (body t r p q x x' : List ℕ) (n m e : ℕ) (b : Bool) (a : Answer) (l : Ledger) (s : State) → n ≡ little (field 988 4 body)
+pub plant_plays : (given : Bool) (body t r p q : List ℕ) (x x' : Pen) (n m : ℕ) (b : Bool) (a : Answer) (l : Ledger) (s : State) → n ≡ little (field 988 4 body)
     → m ≡ little (field 992 4 body) → b ≡ can_lend (eqb (length body) (plant_length given n m)) n m (length t) (length r) → b ≡ true
     → p ≡ field 996 (length (take n t)) body → q ≡ field (996 + n) (length (take m r)) body → a ≡ accepted → l ≡ ledger_of body
-    → Wrote 48 (answer_line (ascii "plant") a) (pen x 0) (pen x' e) → s ≡ running_on l n m
-    → Plays (plant_turn given body t r) (p ++ drop n t) (q ++ drop m r) x x' (record { state = s; end = e })
+    → Wrote 48 (answer_line (ascii "plant") a) x x' → s ≡ running_on l n m
+    → Plays (plant_turn given body t r) (p ++ drop n t) (q ++ drop m r) x x' s
 unfolding plant_turn plant_on
-plant_plays given body t r p q x x' n m e b a l s hn hm hb h hp hq ha hl w hs =
+plant_plays given body t r p q x x' n m b a l s hn hm hb h hp hq ha hl w hs =
     let i : length (take n t) ≡ n = length-take-le n t (lent_table _ n m _ _ hb h) in
     let j : length (take m r) ≡ m = length-take-le m r (lent_roll _ n m _ _ hb h) in
     let d : plant_on n m body t r ≡ plant_turn given body t r = lends_by _ _ t r hn hm hb h in
@@ -106,16 +105,16 @@ unfolding rows_laid
 rows_none m at number step tail b e = rw e
 
 -- T and A: rows laid in the lent part of one buffer
-module _ (body t r p x x' : List ℕ) (e : ℕ) (z : State) (b : Bool) (a : Answer) (h : LentWithin z t r) (ha : a ≡ accepted) (w : Wrote 47 (answer_line (ascii "fill") a) (pen x 0) (pen x' e)) where
+module _ (body t r p : List ℕ) (x x' : Pen) (z : State) (b : Bool) (a : Answer) (h : LentWithin z t r) (ha : a ≡ accepted) (w : Wrote 47 (answer_line (ascii "fill") a) x x') where
   pub table_plays : b ≡ can_lay body z.table → b ≡ true → p ≡ laid_by body (take z.table t) → length p ≡ length (take z.table t)
-      → Plays (table_turn body t r z) (p ++ drop z.table t) r x x' (record { state = z; end = e })
+      → Plays (table_turn body t r z) (p ++ drop z.table t) r x x' z
   unfolding table_turn
   table_plays hb taken hp hk =
       let v : turn_of z (p ++ drop z.table t) r (answer_line (ascii "fill") a) ≡ table_turn body t r z = rw (ha, hp, sym hb ∙ taken) in
       plays_as v (plays (omega arith) refl (record { table = still z.table p t (hk ∙ length-take-le z.table t h.table); roll = h.roll }) w)
 
   pub roll_laid_plays : b ≡ can_lay body z.roll → b ≡ true → p ≡ laid_by body (take z.roll r) → length p ≡ length (take z.roll r)
-      → Plays (roll_turn body t r z) t (p ++ drop z.roll r) x x' (record { state = z; end = e })
+      → Plays (roll_turn body t r z) t (p ++ drop z.roll r) x x' z
   unfolding roll_turn
   roll_laid_plays hb taken hp hk =
       let v : turn_of z t (p ++ drop z.roll r) (answer_line (ascii "fill") a) ≡ roll_turn body t r z = rw (ha, hp, sym hb ∙ taken) in
@@ -137,13 +136,13 @@ module _ (body t r : List ℕ) (z : State) {b : Bool} where
   roll_broken hb left = rw (sym hb ∙ left)
 
 -- C and D: a case was judged, and its line stands behind the text y
-pub judged_plays : {b : ℕ} (y body t r t' x x' : List ℕ) (e : ℕ) (z : State) (a : Answered) (s : State) → b ≤ longest → LentWithin z t r
+pub judged_plays : {b : ℕ} (y body t r t' : List ℕ) (x x' : Pen) (z : State) (a : Answered) (s : State) → b ≤ longest → LentWithin z t r
     → a ≡ judged_of body (take z.table t) (take z.roll r) z.ledger
     → t' ≡ table_after_case body (take z.table t) (take z.roll r) z.ledger ++ drop z.table t → length t' ≡ length t
-    → Wrote b (y ++ answer_and_row (ascii "case") a.answer) (pen x 0) (pen x' e) → s ≡ running_on a.ledger z.table z.roll
-    → Plays (behind y (case_turn body t r z)) t' r x x' (record { state = s; end = e })
+    → Wrote b (y ++ answer_and_row (ascii "case") a.answer) x x' → s ≡ running_on a.ledger z.table z.roll
+    → Plays (behind y (case_turn body t r z)) t' r x x' s
 unfolding case_turn case_on judged_of
-judged_plays y body t r t' x x' e z a s hb h ha ht hk w hs =
+judged_plays y body t r t' x x' z a s hb h ha ht hk w hs =
     let v : turn_of (running_on a.ledger z.table z.roll) t' r (y ++ answer_and_row (ascii "case") a.answer) ≡ behind y (case_turn body t r z) = rw (ha, ht) in
     plays_as v (plays hb hs (record { table = omega (arith, h.table); roll = h.roll }) w)
 
@@ -153,14 +152,14 @@ module _ (d b b' t r : List ℕ) (z : State) (a : Answer) (ha : a ≡ desk_answe
   unfolding desk_on
   draft_refused h = rw (hb, sym ha, h)
 
-  pub draft_plays : {t' x x₁ x' : List ℕ} {e₁ e : ℕ} {j : Answered} {s : State} → is_accepted a ≡ true → Wrote 112 (desk_line a b') (pen x 0) (pen x₁ e₁) → LentWithin z t r
+  pub draft_plays : {t' : List ℕ} {x x₁ x' : Pen} {j : Answered} {s : State} → is_accepted a ≡ true → Wrote 112 (desk_line a b') x x₁ → LentWithin z t r
       → j ≡ judged_of b' (take z.table t) (take z.roll r) z.ledger
       → t' ≡ table_after_case b' (take z.table t) (take z.roll r) z.ledger ++ drop z.table t → length t' ≡ length t
-      → Wrote 72 (answer_and_row (ascii "case") j.answer) (pen x₁ e₁) (pen x' e) → s ≡ running_on j.ledger z.table z.roll
-      → Plays (desk_on d b t r z) t' r x x' (record { state = s; end = e })
+      → Wrote 72 (answer_and_row (ascii "case") j.answer) x₁ x' → s ≡ running_on j.ledger z.table z.roll
+      → Plays (desk_on d b t r z) t' r x x' s
   unfolding desk_on
-  draft_plays {t' = t'} {x = x} {x' = x'} {e = e} {j = j} {s = s} ok line h hj ht hk w hs =
-      plays_as (rw (hb, sym ha, ok)) (judged_plays (desk_line a b') b' t r t' x x' e z j s (omega arith) h hj ht hk (then line w) hs)
+  draft_plays {t' = t'} {x = x} {x' = x'} {j = j} {s = s} ok line h hj ht hk w hs =
+      plays_as (rw (hb, sym ha, ok)) (judged_plays (desk_line a b') b' t r t' x x' z j s (omega arith) h hj ht hk (then line w) hs)
 
 -- some of several equal bytes
 pub taken_of : (n m x : ℕ) → n ≤ m → take n (replicate m x) ≡ replicate n x
@@ -183,24 +182,24 @@ module _ (body t r : List ℕ) (z : State) where
   desk_drafts n e h k = rw (le-leb 4 (length body) h, sym e, le-leb n desk_most k)
 
 -- F and B: a call that changes the roll alone. It left q in the lent part, and u is the turn that it makes
-roll_plays : {b : ℕ} (word t r q x x' : List ℕ) (e : ℕ) (z : State) (a : Answered) (s : State) (u : Turn) → b ≤ longest → LentWithin z t r
-    → length q ≡ length (take z.roll r) → Wrote b (answer_line word a.answer) (pen x 0) (pen x' e) → s ≡ running_on a.ledger z.table z.roll
+roll_plays : {b : ℕ} (word t r q : List ℕ) (x x' : Pen) (z : State) (a : Answered) (s : State) (u : Turn) → b ≤ longest → LentWithin z t r
+    → length q ≡ length (take z.roll r) → Wrote b (answer_line word a.answer) x x' → s ≡ running_on a.ledger z.table z.roll
     → turn_of (running_on a.ledger z.table z.roll) t (q ++ drop z.roll r) (answer_line word a.answer) ≡ u
-    → Plays u t (q ++ drop z.roll r) x x' (record { state = s; end = e })
-roll_plays word t r q x x' e z a s u hb h hk w hs v =
+    → Plays u t (q ++ drop z.roll r) x x' s
+roll_plays word t r q x x' z a s u hb h hk w hs v =
     plays_as v (plays hb hs (record { table = h.table; roll = still z.roll q r (hk ∙ length-take-le z.roll r h.roll) }) w)
 
-pub fresh_plays : (t r q x x' : List ℕ) (e : ℕ) (z : State) (a : Answered) (s : State) → LentWithin z t r
+pub fresh_plays : (t r q : List ℕ) (x x' : Pen) (z : State) (a : Answered) (s : State) → LentWithin z t r
     → a.answer ≡ first (open_refusals (take z.roll r)) → a.ledger ≡ opened_of (take z.roll r) → q ≡ roll_after_open (take z.roll r)
-    → length q ≡ length (take z.roll r) → Wrote 47 (answer_line (ascii "open") a.answer) (pen x 0) (pen x' e)
-    → s ≡ running_on a.ledger z.table z.roll → Plays (fresh_turn t r z) t (q ++ drop z.roll r) x x' (record { state = s; end = e })
+    → length q ≡ length (take z.roll r) → Wrote 47 (answer_line (ascii "open") a.answer) x x'
+    → s ≡ running_on a.ledger z.table z.roll → Plays (fresh_turn t r z) t (q ++ drop z.roll r) x x' s
 unfolding fresh_turn fresh_on
-fresh_plays t r q x x' e z a s h ha hl hq hk w hs = roll_plays (ascii "open") t r q x x' e z a s (fresh_turn t r z) (omega arith) h hk w hs (rw (ha, hl, hq))
+fresh_plays t r q x x' z a s h ha hl hq hk w hs = roll_plays (ascii "open") t r q x x' z a s (fresh_turn t r z) (omega arith) h hk w hs (rw (ha, hl, hq))
 
-pub block_plays : (t r q x x' : List ℕ) (e : ℕ) (z : State) (a : Answered) (s : State) → LentWithin z t r
+pub block_plays : (t r q : List ℕ) (x x' : Pen) (z : State) (a : Answered) (s : State) → LentWithin z t r
     → a.answer ≡ first (close_refusals (take z.table t) (take z.roll r) z.ledger) → a.ledger ≡ closed_of (take z.table t) (take z.roll r) z.ledger
     → q ≡ roll_after_close (take z.table t) (take z.roll r) z.ledger → length q ≡ length (take z.roll r)
-    → Wrote 48 (answer_line (ascii "block") a.answer) (pen x 0) (pen x' e) → s ≡ running_on a.ledger z.table z.roll
-    → Plays (block_turn t r z) t (q ++ drop z.roll r) x x' (record { state = s; end = e })
+    → Wrote 48 (answer_line (ascii "block") a.answer) x x' → s ≡ running_on a.ledger z.table z.roll
+    → Plays (block_turn t r z) t (q ++ drop z.roll r) x x' s
 unfolding block_turn block_on
-block_plays t r q x x' e z a s h ha hl hq hk w hs = roll_plays (ascii "block") t r q x x' e z a s (block_turn t r z) (omega arith) h hk w hs (rw (ha, hl, hq))
+block_plays t r q x x' z a s h ha hl hq hk w hs = roll_plays (ascii "block") t r q x x' z a s (block_turn t r z) (omega arith) h hk w hs (rw (ha, hl, hq))

@@ -1,14 +1,14 @@
 -- What each entry of a tape leaves and prints. An entry is a kind (1 byte), its body's length (4) and its body. t and r are the buffers for the
 -- nullifier table and the anchor roll, s is what was kept from the entry before: the ledger, and how many bytes of each buffer are lent to it.
 -- Assumes nothing.
-use Rattle.std.specs.Prelude.{◌≡◌, ℕ, zero, suc, ◌+◌, ◌*◌, ◌%◌, ◌^◌, ◌≤◌, Bool, true, false, cond, ◌&&◌, List, [], ◌++◌, length, take, drop, replicate, ◌==◌, nat_eq, nat_le, slice_index}
+use Rattle.std.specs.Prelude.{◌≡◌, ℕ, zero, suc, ◌+◌, ◌*◌, ◌%◌, ◌^◌, ◌≤◌, Bool, true, false, cond, ◌&&◌, List, [], ◌++◌, length, take, drop, replicate, ◌==◌, nat_eq, nat_le, slice_index, Option, Some, None, Result, Ok, Err}
 use Prim.Native.String.{String}
 use Rattle.octets.specs.Numbers.{little, big_bytes}
 use Rattle.octets.specs.Parts.{zeros, field, pasted}
 use Rattle.text.specs.Words.{ascii, name_line}
 use Rattle.text.specs.Answers.{answer_words, answer_line, answer_and_row}
 use Rattle.text.specs.Hex.{hex}
-use Rattle.text.specs.Pen.{pen, Wrote}
+use Rattle.text.specs.Pen.{Pen, Wrote}
 use Rattle.refusals.specs.declared.Answer.{Answer}
 use Rattle.refusals.specs.Rules.{answer, accepted, is_accepted, first}
 use Rattle.sha256.specs.Hash.{sha256_of}
@@ -18,9 +18,8 @@ use Rattle.ledger.specs.Ledgers.{empty_ledger, open_refusals, opened_of, roll_af
 use Rattle.ledgerbytes.specs.LedgerBytes.{ledger_of}
 use Rattle.judge.specs.Judging.{answer_of, ledger_after_case, table_after_case}
 use Rattle.replay.specs.declared.State.{State}
-use Rattle.replay.specs.declared.Ran.{Ran}
-use Rattle.replay.specs.declared.Next.{Next}
-use Rattle.replay.specs.declared.Next.TheVariants.{Entry, End, Broken}
+use Rattle.replay.specs.declared.Entry.{Entry}
+use Rattle.replay.specs.declared.Broken.{Broken}
 use Rattle.replay.specs.Looks.{ledger_text, rows_text, memory_text, seal_text}
 
 -- what an entry leaves, and what is printed of it
@@ -177,7 +176,10 @@ seal_turn body t r s = cond (length body == 41) (turn_of s t r (seal_text body))
 unfoldable pub name_turn : List ℕ → List ℕ → List ℕ → State → Turn
 name_turn body t r s = cond (nat_le (length body) 100) (turn_of s t r (name_line body)) (broken_turn t r)
 
--- AN ENTRY by its kind
+-- AN ENTRY by its kind; of a kind that is none of these, by whether its body is empty
+unfoldable pub other_turn : ℕ → List ℕ → List ℕ → List ℕ → State → Turn
+other_turn kind body t r s = cond (length body == 0) (bare_turn kind t r s) (lay_turn kind body t r s)
+
 unfoldable pub entry_turn : ℕ → List ℕ → List ℕ → List ℕ → State → Turn
 entry_turn kind body t r s =
     cond (is_kind "O" kind) (open_turn body t r)
@@ -185,20 +187,22 @@ entry_turn kind body t r s =
     (cond (is_kind "D" kind) (desk_turn body t r s)
     (cond (is_kind "S" kind) (seal_turn body t r s)
     (cond (is_kind "N" kind) (name_turn body t r s)
-    (cond (length body == 0) (bare_turn kind t r s)
-    (lay_turn kind body t r s))))))
+    (other_turn kind body t r s)))))
 
--- WHAT STANDS NEXT on the tape, whose body was read to the start of the buffer b: at the end nothing is printed
+-- WHAT STANDS NEXT on the tape, whose body was read to the start of the buffer b: an entry; at the end nothing, and nothing is printed; or what is no entry
+abbrev pub Next : Type 0
+Next = Result (Option Entry) Broken
+
 unfoldable pub next_turn : Next → List ℕ → List ℕ → List ℕ → State → Turn
-next_turn (Entry kind n) b t r s = entry_turn kind (take n b) t r s
-next_turn End b t r s = turn_of (nothing false) t r []
-next_turn Broken b t r s = broken_turn t r
+next_turn (Ok (Some e)) b t r s = entry_turn e.kind (take e.length b) t r s
+next_turn (Ok None) b t r s = turn_of (nothing false) t r []
+next_turn (Err e) b t r s = broken_turn t r
 
 -- how many bytes an entry's body has
 abbrev pub entry_length : Next → ℕ
-entry_length (Entry kind n) = n
-entry_length End = 0
-entry_length Broken = 0
+entry_length (Ok (Some e)) = e.length
+entry_length (Ok None) = 0
+entry_length (Err e) = 0
 
 -- the bytes that are lent lie within the buffers t and r
 pub record LentWithin (s : State) (t r : List ℕ) : Type 0 where
@@ -209,11 +213,11 @@ pub record LentWithin (s : State) (t r : List ℕ) : Type 0 where
 abbrev pub longest : ℕ
 longest = 219136
 
--- THE CONTRACT of whatever plays an entry: the state that it answers, the buffers t and r that it leaves, and the text, from the start of the page m on,
--- are those of the turn u. The last part follows; it is what the next entry asks
-pub record Plays (u : Turn) (t r m m' : List ℕ) (a : Ran) : Type 0 where
-  pub state : a.state ≡ u.state
+-- THE CONTRACT of whatever plays an entry: the state s that it answers, the buffers t and r that it leaves, and the text, written from p to q, are those of
+-- the turn u. The last part follows; it is what the next entry asks
+pub record Plays (u : Turn) (t r : List ℕ) (p q : Pen) (s : State) : Type 0 where
+  pub state : s ≡ u.state
   pub table : t ≡ u.table
   pub roll : r ≡ u.roll
-  pub text : Wrote longest u.text (pen m 0) (pen m' a.end)
-  pub within : LentWithin a.state t r
+  pub text : Wrote longest u.text p q
+  pub within : LentWithin s t r

@@ -4,7 +4,7 @@
 // is, is left to `judge`, `desk`, `ledger` and `seal`.
 #![tactic(auto)]
 
-ghost use Rattle.std.specs.Prelude.{◌≡◌, ◌+◌, ◌*◌, ◌^◌, ◌<◌, ◌≤◌, min, false, ◌++◌, length, take, drop};
+ghost use Rattle.std.specs.Prelude.{◌≡◌, ◌+◌, ◌*◌, ◌^◌, ◌<◌, ◌≤◌, min, false, ◌++◌, length, take, drop, IsOk};
 ghost use Rattle.octets.specs.Parts.{zeros};
 ghost use Rattle.refusals.specs.Rules.{first, answer};
 ghost use Rattle.sha256.specs.Hash.{sha256_of};
@@ -15,14 +15,15 @@ ghost use Rattle.text.specs.Words.{ascii};
 ghost use Rattle.text.specs.Decimal.{decimal};
 ghost use Rattle.text.specs.Answers.{answer_words, answer_line};
 ghost use Rattle.text.specs.Hex.{hex, hex64};
-ghost use Rattle.text.specs.Pen.{pen, Wrote};
+ghost use Rattle.text.specs.Pen.{Wrote};
 ghost use Rattle.replay.specs.Looks.{ledger_text, row_line, row_lines, rows_text, memory_text, pull_bits, sealed_text, seal_text};
-ghost use Rattle.replay.specs.Tape.{nothing as nothing_of, running_on, can_lend, open_turn, plant_length, plant_turn, row_laid, laid_by, can_lay, table_turn, roll_turn, lay_turn, case_turn, desk_line, desk_on, desk_turn, fresh_turn, block_turn, look_turn, bare_turn, name_turn, entry_turn, next_turn, entry_length, longest, LentWithin, Plays};
+ghost use Rattle.replay.specs.Tape.{nothing as nothing_of, running_on, can_lend, open_turn, plant_length, plant_turn, row_laid, laid_by, can_lay, table_turn, roll_turn, lay_turn, case_turn, desk_line, desk_on, desk_turn, fresh_turn, block_turn, look_turn, bare_turn, seal_turn, name_turn, other_turn, entry_turn, next_turn, entry_length, longest, LentWithin, Plays};
 
 use ledger::{Answered, Ledger};
 use refusals::Answer;
 use seal::{Calibration, SealRefusal};
 use std::io;
+use text::Page;
 use tree::Tree;
 use units::Amount;
 
@@ -36,28 +37,16 @@ pub struct State {
     pub roll: usize,
 }
 
-// What is kept after an entry, and where its text ends.
+// An entry of the tape: its kind, and its body's length.
 #[derive(Clone, Copy)]
-pub struct Ran {
-    pub state: State,
-    pub end: usize,
+pub struct Entry {
+    pub kind: u8,
+    pub length: usize,
 }
 
-// What comes next on the tape: an entry's kind and its body's length, the end, or no entry.
+// What is no entry.
 #[derive(Clone, Copy)]
-pub enum Next {
-    Entry(u8, usize),
-    End,
-    Broken,
-}
-
-fn clear(bytes: &mut [u8])
-    ensures { bytes.new ≡ zeros (length bytes.old) }
-{
-    for i in 0..bytes.len() {
-        bytes[i] = 0;
-    }
-}
+pub struct Broken;
 
 // A ledger with nothing in it, not even an anchor, on buffers of no length.
 fn nothing(on: bool) -> State
@@ -84,8 +73,8 @@ fn opened(table: &mut [u8], roll: &mut [u8]) -> Answered
     ensures table_after { table.new ≡ zeros (length table.old) }
     ensures roll_after { roll.new ≡ roll_after_open (zeros (length roll.old)) }
 {
-    clear(table);
-    clear(roll);
+    table.fill(0);
+    roll.fill(0);
     judge::open(roll)
 }
 
@@ -100,144 +89,131 @@ fn bits_of(pull: f64) -> u64
 }
 
 // A word and bytes as hexadecimal digits: a row, a root or a hash.
-fn put_named(out: &mut [u8], at: usize, word: &[u8], bytes: &[u8; 32]) -> usize
-    ensures { Wrote (length word.now + 64) (word.now ++ hex bytes.now) (pen out.old at) (pen out.new result) }
+fn put_named(page: &mut Page<219136>, word: &[u8], bytes: &[u8; 32])
+    ensures { Wrote (length word.now + 64) (word.now ++ hex bytes.now) page.old page.new }
 {
-    let next = text::put(out, at, word);
-    text::put_hex(out, next, bytes)
+    page.put(word);
+    page.put_hex(bytes);
 }
 
 // The end of the line about a ledger: its pool and its root.
-fn put_pool_and_root(out: &mut [u8], at: usize, l: Ledger) -> usize
-    ensures { Wrote 97 (ascii " pool " ++ decimal l.pool.0 ++ ascii " root " ++ hex (record_root l.tree) ++ ascii "\n") (pen out.old at) (pen out.new result) }
+fn put_pool_and_root(page: &mut Page<219136>, l: Ledger)
+    ensures { Wrote 97 (ascii " pool " ++ decimal l.pool.0 ++ ascii " root " ++ hex (record_root l.tree) ++ ascii "\n") page.old page.new }
 {
-    let tree = l.tree;
-    let pool = l.pool;
-    let money = text::put_count(out, at, b" pool ", pool.zatoshi());
-    let root = tree.root();
-    let rooted = put_named(out, money, b" root ", &root);
-    text::put(out, rooted, b"\n")
+    page.put_count(b" pool ", l.pool.zatoshi());
+    put_named(page, b" root ", &l.tree.root());
+    page.put(b"\n");
 }
 
-fn put_ledger(out: &mut [u8], l: Ledger) -> usize
-    ensures { Wrote 187 (ledger_text l) (pen out.old 0) (pen out.new result) }
+fn put_ledger(page: &mut Page<219136>, l: Ledger)
+    ensures { Wrote 187 (ledger_text l) page.old page.new }
 {
-    let tree = l.tree;
-    let spent = text::put_count(out, 0, b"ledger spent ", l.nullifiers as u64);
-    let leaves = text::put_count(out, spent, b" leaves ", tree.leaves as u64);
-    let anchors = text::put_count(out, leaves, b" anchors ", l.anchors as u64);
-    put_pool_and_root(out, anchors, l)
+    page.put_count(b"ledger spent ", l.nullifiers as u64);
+    page.put_count(b" leaves ", l.tree.leaves as u64);
+    page.put_count(b" anchors ", l.anchors as u64);
+    put_pool_and_root(page, l);
 }
 
 // How many of count rows there is room for: in so many bytes, and at most so many.
 fn rows_shown(most: usize, count: usize, len: usize) -> usize
     ensures { result ≡ min count (room_in most len) }
 {
-    let n = len / 32;
-    let room = if n < most { n } else { most };
-    if count < room { count } else { room }
+    count.min((len / 32).min(most))
 }
 
-fn put_row(out: &mut [u8], at: usize, word: &[u8], row: &[u8; 32]) -> usize
-    ensures { Wrote (length word.now + 65) (row_line word.now row.now) (pen out.old at) (pen out.new result) }
+fn put_row(page: &mut Page<219136>, word: &[u8], row: &[u8; 32])
+    ensures { Wrote (length word.now + 65) (row_line word.now row.now) page.old page.new }
 {
-    let next = put_named(out, at, word, row);
-    text::put(out, next, b"\n")
+    put_named(page, word, row);
+    page.put(b"\n");
 }
 
-fn put_rows(out: &mut [u8], at: usize, word: &[u8], n: usize, bytes: &[u8]) -> usize
+fn put_rows(page: &mut Page<219136>, word: &[u8], n: usize, bytes: &[u8])
     requires { n * 32 ≤ length bytes.now }
-    ensures { Wrote ((length word.now + 65) * n) (row_lines word.now n bytes.now) (pen out.old at) (pen out.new result) }
+    ensures { Wrote ((length word.now + 65) * n) (row_lines word.now n bytes.now) page.old page.new }
 {
-    let mut next = at;
     for i in 0..n {
         let row = octets::part32(bytes, i * 32);
-        next = put_row(out, next, word, &row);
+        put_row(page, word, &row);
     }
-    next
 }
 
-fn put_all_rows(out: &mut [u8], table: &[u8], roll: &[u8], l: Ledger) -> usize
-    ensures { Wrote longest (rows_text table.now roll.now l) (pen out.old 0) (pen out.new result) }
+fn put_all_rows(page: &mut Page<219136>, table: &[u8], roll: &[u8], l: Ledger)
+    ensures { Wrote longest (rows_text table.now roll.now l) page.old page.new }
 {
     let n = rows_shown(2048, l.nullifiers, table.len());
     let m = rows_shown(1024, l.anchors, roll.len());
-    let next = put_rows(out, 0, b"spent ", n, table);
-    put_rows(out, next, b"anchor ", m, roll)
+    put_rows(page, b"spent ", n, table);
+    put_rows(page, b"anchor ", m, roll);
 }
 
 // A word and the hash of some bytes, so that many bytes are compared by one short line.
-fn put_hash(out: &mut [u8], at: usize, word: &[u8], bytes: &[u8]) -> usize
-    ensures { Wrote (length word.now + 64) (word.now ++ hex (sha256_of bytes.now)) (pen out.old at) (pen out.new result) }
+fn put_hash(page: &mut Page<219136>, word: &[u8], bytes: &[u8])
+    ensures { Wrote (length word.now + 64) (word.now ++ hex (sha256_of bytes.now)) page.old page.new }
 {
-    let h = sha256::hash(bytes);
-    put_named(out, at, word, &h)
+    put_named(page, word, &sha256::hash(bytes));
 }
 
 // What no answer shows: every lent byte, the spare ones too, and every node of the record, the unused
 // ones too.
-fn put_memory(out: &mut [u8], table: &[u8], roll: &[u8], l: Ledger) -> usize
-    ensures { Wrote 202 (memory_text table.now roll.now l) (pen out.old 0) (pen out.new result) }
+fn put_memory(page: &mut Page<219136>, table: &[u8], roll: &[u8], l: Ledger)
+    ensures { Wrote 202 (memory_text table.now roll.now l) page.old page.new }
 {
-    let tree = l.tree;
-    let nodes = tree.nodes;
-    let first = put_hash(out, 0, b"memory ", table);
-    let second = put_hash(out, first, b" ", roll);
-    let third = put_hash(out, second, b" ", &nodes);
-    text::put(out, third, b"\n")
+    let nodes = l.tree.nodes;
+    put_hash(page, b"memory ", table);
+    put_hash(page, b" ", roll);
+    put_hash(page, b" ", &nodes);
+    page.put(b"\n");
 }
 
 // A seal that passed: its pull behind the answer.
-fn put_passed(out: &mut [u8], a: Answer, pull: f64) -> usize
-    ensures { Wrote 64 (answer_words (ascii "seal") a ++ ascii " " ++ hex64 (pull_bits pull) ++ ascii "\n") (pen out.old 0) (pen out.new result) }
+fn put_passed(page: &mut Page<219136>, a: Answer, pull: f64)
+    ensures { Wrote 64 (answer_words (ascii "seal") a ++ ascii " " ++ hex64 (pull_bits pull) ++ ascii "\n") page.old page.new }
 {
-    let answered = text::put_answer(out, 0, b"seal", a);
-    let spaced = text::put(out, answered, b" ");
-    let pulled = text::put_hex64(out, spaced, bits_of(pull));
-    text::put(out, pulled, b"\n")
+    page.put_answer(b"seal", a);
+    page.put(b" ");
+    page.put_hex64(bits_of(pull));
+    page.put(b"\n");
 }
 
-fn put_sealed(out: &mut [u8], sealed: Result<f64, SealRefusal>) -> usize
-    ensures { Wrote 64 (sealed_text sealed) (pen out.old 0) (pen out.new result) }
+fn put_sealed(page: &mut Page<219136>, sealed: Result<f64, SealRefusal>)
+    ensures { Wrote 64 (sealed_text sealed) page.old page.new }
 {
     match sealed {
-        Ok(pull) => put_passed(out, Answer::accepted(), pull),
-        Err(refusal) => text::put_answer_line(out, 0, b"seal", Answer::from(refusal)),
+        Ok(pull) => put_passed(page, Answer::accepted(), pull),
+        Err(refusal) => page.put_answer_line(b"seal", Answer::from(refusal)),
     }
 }
 
-fn put_seal(out: &mut [u8], body: &[u8]) -> usize
+fn put_seal(page: &mut Page<219136>, body: &[u8])
     requires { length body.now ≡ 41 }
-    ensures { Wrote 64 (seal_text body.now) (pen out.old 0) (pen out.new result) }
+    ensures { Wrote 64 (seal_text body.now) page.old page.new }
 {
     let c = Calibration {
         gain: seal::float_at(body, 0),
         offset: seal::float_at(body, 8),
     };
     match seal::read_body(&body[16..41]) {
-        Ok(reading) => put_sealed(out, seal::judge(c, reading.gate, reading.raw)),
-        Err(broken) => text::put_answer_line(out, 0, b"seal", Answer::from(broken)),
+        Ok(reading) => put_sealed(page, seal::judge(c, reading.gate, reading.raw)),
+        Err(broken) => page.put_answer_line(b"seal", Answer::from(broken)),
     }
 }
 
 // Whatever breaks the tape's layout ends the run.
-fn broken(out: &mut [u8]) -> Ran
-    ensures state_value { result.state ≡ nothing_of false }
-    ensures wrote { Wrote 47 (answer_line (ascii "tape") (answer 50 0)) (pen out.old 0) (pen out.new result.end) }
+fn break_off(page: &mut Page<219136>) -> State
+    ensures state_value { result ≡ nothing_of false }
+    ensures wrote { Wrote 47 (answer_line (ascii "tape") (answer 50 0)) page.old page.new }
 {
-    let end = text::put_answer_line(out, 0, b"tape", Answer::refused(50, 0));
-    let state = nothing(false);
-    Ran { state, end }
+    page.put_answer_line(b"tape", Answer::refused(50, 0));
+    nothing(false)
 }
 
 // Whether an entry's body is whole and the buffers have the bytes that it lends.
 fn can_lend(whole: bool, n: usize, m: usize, table: usize, roll: usize) -> bool
     ensures { result ≡ can_lend whole n m table roll }
 {
-    if whole {
-        if n <= table {
-            return m <= roll;
-        }
+    if whole && n <= table {
+        return m <= roll;
     }
     false
 }
@@ -253,18 +229,17 @@ fn going_on(ledger: Ledger, table: usize, roll: usize) -> State
     }
 }
 
-fn run_open(body: &[u8], table: &mut [u8], roll: &mut [u8], out: &mut [u8]) -> Ran
-    ensures { Plays (open_turn body.now table.old roll.old) table.new roll.new out.old out.new result }
+fn run_open(body: &[u8], table: &mut [u8], roll: &mut [u8], page: &mut Page<219136>) -> State
+    ensures { Plays (open_turn body.now table.old roll.old) table.new roll.new page.old page.new result }
 {
     let n = octets::le32(body, 0) as usize;
     let m = octets::le32(body, 4) as usize;
     if can_lend(body.len() == 8, n, m, table.len(), roll.len()) {
         let a = opened(&mut table[..n], &mut roll[..m]);
-        let end = text::put_answer_line(out, 0, b"open", a.answer);
-        let state = going_on(a.ledger, n, m);
-        return Ran { state, end };
+        page.put_answer_line(b"open", a.answer);
+        return going_on(a.ledger, n, m);
     }
-    broken(out)
+    break_off(page)
 }
 
 // How long the body is of an entry that plants: with the bytes of table and roll given in it, or without.
@@ -278,8 +253,14 @@ fn plant_length(given: bool, n: usize, m: usize) -> usize
     996
 }
 
-fn run_plant(given: bool, body: &[u8], table: &mut [u8], roll: &mut [u8], out: &mut [u8]) -> Ran
-    ensures { Plays (plant_turn given body.now table.old roll.old) table.new roll.new out.old out.new result }
+fn run_plant(
+    given: bool,
+    body: &[u8],
+    table: &mut [u8],
+    roll: &mut [u8],
+    page: &mut Page<219136>,
+) -> State
+    ensures { Plays (plant_turn given body.now table.old roll.old) table.new roll.new page.old page.new result }
 {
     let n = octets::le32(body, 988) as usize;
     let m = octets::le32(body, 992) as usize;
@@ -287,11 +268,10 @@ fn run_plant(given: bool, body: &[u8], table: &mut [u8], roll: &mut [u8], out: &
     if can_lend(whole, n, m, table.len(), roll.len()) {
         octets::fill(&mut table[..n], body, 996);
         octets::fill(&mut roll[..m], body, 996 + n);
-        let end = text::put_answer_line(out, 0, b"plant", Answer::accepted());
-        let state = going_on(ledgerbytes::read(body), n, m);
-        return Ran { state, end };
+        page.put_answer_line(b"plant", Answer::accepted());
+        return going_on(ledgerbytes::read(body), n, m);
     }
-    broken(out)
+    break_off(page)
 }
 
 // One row that is laid by rule: the number's eight bytes, the highest first, and 24 bytes of the entry.
@@ -331,30 +311,42 @@ fn can_lay(body: &[u8], lent: usize) -> bool
     false
 }
 
-fn run_table(body: &[u8], table: &mut [u8], roll: &[u8], state: State, out: &mut [u8]) -> Ran
+fn run_table(
+    body: &[u8],
+    table: &mut [u8],
+    roll: &[u8],
+    state: State,
+    page: &mut Page<219136>,
+) -> State
     requires { LentWithin state table.old roll.now }
-    ensures { Plays (table_turn body.now table.old roll.now state) table.new roll.now out.old out.new result }
+    ensures { Plays (table_turn body.now table.old roll.now state) table.new roll.now page.old page.new result }
 {
     let n = state.table;
     if can_lay(body, n) {
         lay_rows(&mut table[..n], body);
-        let end = text::put_answer_line(out, 0, b"fill", Answer::accepted());
-        return Ran { state, end };
+        page.put_answer_line(b"fill", Answer::accepted());
+        return state;
     }
-    broken(out)
+    break_off(page)
 }
 
-fn run_roll(body: &[u8], table: &[u8], roll: &mut [u8], state: State, out: &mut [u8]) -> Ran
+fn run_roll(
+    body: &[u8],
+    table: &[u8],
+    roll: &mut [u8],
+    state: State,
+    page: &mut Page<219136>,
+) -> State
     requires { LentWithin state table.now roll.old }
-    ensures { Plays (roll_turn body.now table.now roll.old state) table.now roll.new out.old out.new result }
+    ensures { Plays (roll_turn body.now table.now roll.old state) table.now roll.new page.old page.new result }
 {
     let m = state.roll;
     if can_lay(body, m) {
         lay_rows(&mut roll[..m], body);
-        let end = text::put_answer_line(out, 0, b"fill", Answer::accepted());
-        return Ran { state, end };
+        page.put_answer_line(b"fill", Answer::accepted());
+        return state;
     }
-    broken(out)
+    break_off(page)
 }
 
 // Entries that lay down a ledger or rows, which no call has made.
@@ -364,24 +356,18 @@ fn run_lay(
     table: &mut [u8],
     roll: &mut [u8],
     state: State,
-    out: &mut [u8],
-) -> Ran
+    page: &mut Page<219136>,
+) -> State
     requires { LentWithin state table.old roll.old }
-    ensures { Plays (lay_turn kind body.now table.old roll.old state) table.new roll.new out.old out.new result }
+    ensures { Plays (lay_turn kind body.now table.old roll.old state) table.new roll.new page.old page.new result }
 {
-    if kind == b'P' {
-        return run_plant(true, body, table, roll, out);
+    match kind {
+        b'P' => run_plant(true, body, table, roll, page),
+        b'K' => run_plant(false, body, table, roll, page),
+        b'T' => run_table(body, table, roll, state, page),
+        b'A' => run_roll(body, table, roll, state, page),
+        _ => break_off(page),
     }
-    if kind == b'K' {
-        return run_plant(false, body, table, roll, out);
-    }
-    if kind == b'T' {
-        return run_table(body, table, roll, state, out);
-    }
-    if kind == b'A' {
-        return run_roll(body, table, roll, state, out);
-    }
-    broken(out)
 }
 
 // The case that is judged next, on the lent bytes.
@@ -395,23 +381,28 @@ fn judged(body: &[u8], table: &mut [u8], roll: &[u8], state: State) -> Answered
     judge::judge(body, &mut table[..n], &roll[..m], state.ledger)
 }
 
-fn run_case(body: &[u8], table: &mut [u8], roll: &[u8], state: State, out: &mut [u8]) -> Ran
+fn run_case(
+    body: &[u8],
+    table: &mut [u8],
+    roll: &[u8],
+    state: State,
+    page: &mut Page<219136>,
+) -> State
     requires { LentWithin state table.old roll.now }
-    ensures { Plays (case_turn body.now table.old roll.now state) table.new roll.now out.old out.new result }
+    ensures { Plays (case_turn body.now table.old roll.now state) table.new roll.now page.old page.new result }
 {
     let a = judged(body, table, roll, state);
-    let end = text::put_answer_and_row(out, 0, b"case", a.answer);
-    let state = going_on(a.ledger, state.table, state.roll);
-    Ran { state, end }
+    page.put_answer_and_row(b"case", a.answer);
+    going_on(a.ledger, state.table, state.roll)
 }
 
 // The desk's line: its answer, and a hash of every byte of its buffer.
-fn put_desk(out: &mut [u8], a: Answer, buffer: &[u8]) -> usize
-    ensures { Wrote 112 (desk_line a buffer.now) (pen out.old 0) (pen out.new result) }
+fn put_desk(page: &mut Page<219136>, a: Answer, buffer: &[u8])
+    ensures { Wrote 112 (desk_line a buffer.now) page.old page.new }
 {
-    let answered = text::put_answer(out, 0, b"desk", a);
-    let hashed = put_hash(out, answered, b" ", buffer);
-    text::put(out, hashed, b"\n")
+    page.put_answer(b"desk", a);
+    put_hash(page, b" ", buffer);
+    page.put(b"\n");
 }
 
 // What the desk writes is judged; what it refuses is not.
@@ -421,108 +412,133 @@ fn run_draft(
     table: &mut [u8],
     roll: &[u8],
     state: State,
-    out: &mut [u8],
-) -> Ran
+    page: &mut Page<219136>,
+) -> State
     requires { LentWithin state table.old roll.now }
-    ensures { Plays (desk_on draft.now buffer.old table.old roll.now state) table.new roll.now out.old out.new result }
+    ensures { Plays (desk_on draft.now buffer.old table.old roll.now state) table.new roll.now page.old page.new result }
 {
     let answer = Answer::from(desk::write(draft, &mut *buffer));
-    let told = put_desk(out, answer, buffer);
+    put_desk(page, answer, buffer);
     if !answer.is_accepted() {
-        return Ran { state, end: told };
+        return state;
     }
     let a = judged(buffer, table, roll, state);
-    let end = text::put_answer_and_row(out, told, b"case", a.answer);
-    let state = going_on(a.ledger, state.table, state.roll);
-    Ran { state, end }
+    page.put_answer_and_row(b"case", a.answer);
+    going_on(a.ledger, state.table, state.roll)
 }
 
-fn run_desk(body: &[u8], table: &mut [u8], roll: &[u8], state: State, out: &mut [u8]) -> Ran
+fn run_desk(
+    body: &[u8],
+    table: &mut [u8],
+    roll: &[u8],
+    state: State,
+    page: &mut Page<219136>,
+) -> State
     requires { LentWithin state table.old roll.now }
-    ensures { Plays (desk_turn body.now table.old roll.now state) table.new roll.now out.old out.new result }
+    ensures { Plays (desk_turn body.now table.old roll.now state) table.new roll.now page.old page.new result }
 {
     if body.len() < 4 {
-        return broken(out);
+        return break_off(page);
     }
     let n = octets::le32(body, 0) as usize;
     if 4352 < n {
-        return broken(out);
+        return break_off(page);
     }
     let mut buffer = [0xa5u8; 4352];
-    run_draft(&body[4..], &mut buffer[..n], table, roll, state, out)
+    run_draft(&body[4..], &mut buffer[..n], table, roll, state, page)
 }
 
 // A fresh ledger on the lent bytes as they stand: entries that look before and after show what it changes.
-fn run_fresh(table: &[u8], roll: &mut [u8], state: State, out: &mut [u8]) -> Ran
+fn run_fresh(table: &[u8], roll: &mut [u8], state: State, page: &mut Page<219136>) -> State
     requires { LentWithin state table.now roll.old }
-    ensures { Plays (fresh_turn table.now roll.old state) table.now roll.new out.old out.new result }
+    ensures { Plays (fresh_turn table.now roll.old state) table.now roll.new page.old page.new result }
 {
     let n = state.table;
     let m = state.roll;
     let a = judge::open(&mut roll[..m]);
-    let end = text::put_answer_line(out, 0, b"open", a.answer);
-    let state = going_on(a.ledger, n, m);
-    Ran { state, end }
+    page.put_answer_line(b"open", a.answer);
+    going_on(a.ledger, n, m)
 }
 
-fn run_block(table: &[u8], roll: &mut [u8], state: State, out: &mut [u8]) -> Ran
+fn run_block(table: &[u8], roll: &mut [u8], state: State, page: &mut Page<219136>) -> State
     requires { LentWithin state table.now roll.old }
-    ensures { Plays (block_turn table.now roll.old state) table.now roll.new out.old out.new result }
+    ensures { Plays (block_turn table.now roll.old state) table.now roll.new page.old page.new result }
 {
     let n = state.table;
     let m = state.roll;
     let a = judge::close(&table[..n], &mut roll[..m], state.ledger);
-    let end = text::put_answer_line(out, 0, b"block", a.answer);
-    let state = going_on(a.ledger, n, m);
-    Ran { state, end }
+    page.put_answer_line(b"block", a.answer);
+    going_on(a.ledger, n, m)
 }
 
 // Entries that look at the ledger, its rows or its memory, and change nothing.
-fn run_look(kind: u8, table: &[u8], roll: &[u8], state: State, out: &mut [u8]) -> Ran
+fn run_look(kind: u8, table: &[u8], roll: &[u8], state: State, page: &mut Page<219136>) -> State
     requires { LentWithin state table.now roll.now }
-    ensures { Plays (look_turn kind table.now roll.now state) table.now roll.now out.old out.new result }
+    ensures { Plays (look_turn kind table.now roll.now state) table.now roll.now page.old page.new result }
 {
     let n = state.table;
     let m = state.roll;
-    if kind == b'L' {
-        let end = put_ledger(out, state.ledger);
-        return Ran { state, end };
+    match kind {
+        b'L' => put_ledger(page, state.ledger),
+        b'R' => put_all_rows(page, &table[..n], &roll[..m], state.ledger),
+        b'M' => put_memory(page, &table[..n], &roll[..m], state.ledger),
+        _ => return break_off(page),
     }
-    if kind == b'R' {
-        let end = put_all_rows(out, &table[..n], &roll[..m], state.ledger);
-        return Ran { state, end };
-    }
-    if kind == b'M' {
-        let end = put_memory(out, &table[..n], &roll[..m], state.ledger);
-        return Ran { state, end };
-    }
-    broken(out)
+    state
 }
 
 // Entries whose body is empty.
-fn run_bare(kind: u8, table: &[u8], roll: &mut [u8], state: State, out: &mut [u8]) -> Ran
+fn run_bare(kind: u8, table: &[u8], roll: &mut [u8], state: State, page: &mut Page<219136>) -> State
     requires { LentWithin state table.now roll.old }
-    ensures { Plays (bare_turn kind table.now roll.old state) table.now roll.new out.old out.new result }
+    ensures { Plays (bare_turn kind table.now roll.old state) table.now roll.new page.old page.new result }
 {
-    if kind == b'F' {
-        return run_fresh(table, roll, state, out);
+    match kind {
+        b'F' => run_fresh(table, roll, state, page),
+        b'B' => run_block(table, roll, state, page),
+        _ => run_look(kind, table, roll, state, page),
     }
-    if kind == b'B' {
-        return run_block(table, roll, state, out);
-    }
-    run_look(kind, table, roll, state, out)
 }
 
 // A name, which changes nothing but what is printed.
-fn run_name(body: &[u8], table: &[u8], roll: &[u8], state: State, out: &mut [u8]) -> Ran
+fn run_name(body: &[u8], table: &[u8], roll: &[u8], state: State, page: &mut Page<219136>) -> State
     requires { LentWithin state table.now roll.now }
-    ensures { Plays (name_turn body.now table.now roll.now state) table.now roll.now out.old out.new result }
+    ensures { Plays (name_turn body.now table.now roll.now state) table.now roll.now page.old page.new result }
 {
     if body.len() <= 100 {
-        let end = text::put_name_line(out, 0, body);
-        return Ran { state, end };
+        page.put_name_line(body);
+        return state;
     }
-    broken(out)
+    break_off(page)
+}
+
+// A seal, which changes nothing but what is printed.
+fn run_seal(body: &[u8], table: &[u8], roll: &[u8], state: State, page: &mut Page<219136>) -> State
+    requires { LentWithin state table.now roll.now }
+    ensures { Plays (seal_turn body.now table.now roll.now state) table.now roll.now page.old page.new result }
+{
+    if body.len() == 41 {
+        put_seal(page, body);
+        return state;
+    }
+    break_off(page)
+}
+
+// Entries that are known by their kind and by whether their body is empty.
+fn run_other(
+    kind: u8,
+    body: &[u8],
+    table: &mut [u8],
+    roll: &mut [u8],
+    state: State,
+    page: &mut Page<219136>,
+) -> State
+    requires { LentWithin state table.old roll.old }
+    ensures { Plays (other_turn kind body.now table.old roll.old state) table.new roll.new page.old page.new result }
+{
+    if body.is_empty() {
+        return run_bare(kind, table, roll, state, page);
+    }
+    run_lay(kind, body, table, roll, state, page)
 }
 
 fn run(
@@ -531,79 +547,69 @@ fn run(
     table: &mut [u8],
     roll: &mut [u8],
     state: State,
-    out: &mut [u8],
-) -> Ran
+    page: &mut Page<219136>,
+) -> State
     requires { LentWithin state table.old roll.old }
-    ensures { Plays (entry_turn kind body.now table.old roll.old state) table.new roll.new out.old out.new result }
+    ensures { Plays (entry_turn kind body.now table.old roll.old state) table.new roll.new page.old page.new result }
 {
-    if kind == b'O' {
-        return run_open(body, table, roll, out);
+    match kind {
+        b'O' => run_open(body, table, roll, page),
+        b'C' => run_case(body, table, roll, state, page),
+        b'D' => run_desk(body, table, roll, state, page),
+        b'S' => run_seal(body, table, roll, state, page),
+        b'N' => run_name(body, table, roll, state, page),
+        _ => run_other(kind, body, table, roll, state, page),
     }
-    if kind == b'C' {
-        return run_case(body, table, roll, state, out);
+}
+
+// Reads n bytes to the start of a buffer.
+fn read_whole(input: &mut impl io::Read, buffer: &mut [u8], n: usize) -> Result<(), Broken>
+    ensures { IsOk result → n ≤ length buffer.new }
+{
+    if buffer.len() < n || lines::read_full(input, &mut buffer[0..n]) < n {
+        return Err(Broken);
     }
-    if kind == b'D' {
-        return run_desk(body, table, roll, state, out);
-    }
-    if kind == b'S' {
-        if body.len() == 41 {
-            let end = put_seal(out, body);
-            return Ran { state, end };
-        }
-        return broken(out);
-    }
-    if kind == b'N' {
-        return run_name(body, table, roll, state, out);
-    }
-    if body.len() == 0 {
-        return run_bare(kind, table, roll, state, out);
-    }
-    run_lay(kind, body, table, roll, state, out)
+    Ok(())
 }
 
 // Reads the next entry's body to the start of a buffer as long as the longest body. A read that fails
 // counts as the tape's end.
-fn read_next(input: &mut impl io::Read, buffer: &mut [u8]) -> Next
+fn read_next(input: &mut impl io::Read, buffer: &mut [u8]) -> Result<Option<Entry>, Broken>
     ensures { entry_length result ≤ length buffer.new }
 {
     let mut head = [0u8; 5];
     let got = lines::read_full(input, &mut head);
     if got == 0 {
-        return Next::End;
+        return Ok(None);
     }
     if got < 5 {
-        return Next::Broken;
+        return Err(Broken);
     }
-    let n = octets::le32(&head, 1) as usize;
-    if buffer.len() < n {
-        return Next::Broken;
-    }
-    if lines::read_full(input, &mut buffer[0..n]) < n {
-        return Next::Broken;
-    }
-    Next::Entry(octets::byte_from(&head, 0, 0), n)
+    let length = octets::le32(&head, 1) as usize;
+    read_whole(input, buffer, length)?;
+    Ok(Some(Entry {
+        kind: head[0],
+        length,
+    }))
 }
 
-// Plays what stands next. Its text is written from the start of a buffer that always has room for it.
+// Plays what stands next. On an empty page its text always has room.
 fn play_next(
-    next: Next,
+    next: Result<Option<Entry>, Broken>,
     buffer: &[u8],
     table: &mut [u8],
     roll: &mut [u8],
     state: State,
-    out: &mut [u8],
-) -> Ran
+    page: &mut Page<219136>,
+) -> State
     requires next_in_bounds { entry_length next ≤ length buffer.now }
     requires lent_within { LentWithin state table.old roll.old }
-    ensures { Plays (next_turn next buffer.now table.old roll.old state) table.new roll.new out.old out.new result }
+    ensures { Plays (next_turn next buffer.now table.old roll.old state) table.new roll.new page.old page.new result }
 {
     match next {
-        Next::Entry(kind, n) => run(kind, &buffer[..n], table, roll, state, out),
-        Next::End => {
-            let state = nothing(false);
-            Ran { state, end: 0 }
-        }
-        Next::Broken => broken(out),
+        Ok(Some(e)) => run(e.kind, &buffer[..e.length], table, roll, state, page),
+        Ok(None) => nothing(false),
+        Err(Broken) => break_off(page),
     }
 }
 
@@ -615,54 +621,42 @@ fn turn(
     table: &mut [u8],
     roll: &mut [u8],
     state: State,
-    out: &mut [u8],
 ) -> State
-    requires longest_in_bounds { longest ≤ length out.old }
-    requires lent_within { LentWithin state table.old roll.old }
+    requires { LentWithin state table.old roll.old }
     ensures { LentWithin result table.new roll.new }
 {
     let next = read_next(input, buffer);
-    let ran = play_next(next, buffer, table, roll, state, out);
-    let end = ran.end;
-    if lines::print(rt, &out[..end]) {
-        return ran.state;
+    let mut page = Page::new();
+    let played = play_next(next, buffer, table, roll, state, &mut page);
+    if lines::print(rt, page.text()) {
+        return played;
     }
     nothing(false)
 }
 
-// A proved loop has to end, and nothing says that a tape does: the turns count down from a number
-// that no run uses up.
+// A proved loop has to end, and nothing says that a tape does: the turns are counted to a number that no
+// run uses up.
 fn play(
     input: &mut impl io::Read,
     rt: &(impl Print + Eprint),
     buffer: &mut [u8],
     table: &mut [u8],
     roll: &mut [u8],
-    out: &mut [u8],
-)
-    requires { longest ≤ length out.old }
-{
+) {
     let mut state = nothing(true);
-    let mut turns = u64::MAX;
-    while turns > 0 && state.on {
-        state = turn(input, rt, buffer, table, roll, state, out);
-        turns -= 1;
+    for _ in 0..u64::MAX {
+        if !state.on {
+            break;
+        }
+        state = turn(input, rt, buffer, table, roll, state);
     }
 }
 
-// The longest body, table, roll and text that a tape may have. A table of 2,097,247 bytes has two rows more than
+// The longest body, table and roll that a tape may have. A table of 2,097,247 bytes has two rows more than
 // the 65,536 that a ledger may use, and 31 bytes; a roll of 131,167 bytes two more than 4,096, and 31.
 fn main(rt: HostRuntime) {
     let mut buffer = [0u8; 131072];
     let mut table = [0u8; 2097247];
     let mut roll = [0u8; 131167];
-    let mut out = [0u8; 219136];
-    play(
-        &mut rt.stdin(),
-        &rt,
-        &mut buffer,
-        &mut table,
-        &mut roll,
-        &mut out,
-    );
+    play(&mut rt.stdin(), &rt, &mut buffer, &mut table, &mut roll);
 }

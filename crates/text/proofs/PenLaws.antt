@@ -9,9 +9,9 @@ use native.Mathlib.Omega.{arith}
 use lib.ListN.{length, take, drop, set, get_or, length-append, length-set, take-append-drop}
 use lib.Seq.{take-suc, take-suc-set, drop-set-lt, take_at, drop_at}
 use borrow.Author.Tests.{lt-ltb, le-ltb}
-use Rattle.octets.specs.Parts.{pasted}
-use Rattle.octets.proofs.PartLaws.{pasted_is}
-use Rattle.text.specs.Pen.{Pen, pen, inked, written, Wrote, Rendered}
+use Rattle.octets.specs.Parts.{pasted, zeros}
+use Rattle.octets.proofs.PartLaws.{pasted_is, zeros_length}
+use Rattle.text.specs.Pen.{Pen, pen, inked, written, Wrote, Rendered, Holds}
 
 -- Writing in steps is writing all of it. There is no premise: what does not fit is lost in both ways alike
 written_append : (s t : List ℕ) (p : Pen) → written (s ++ t) p ≡ written t (written s p)
@@ -75,7 +75,7 @@ each_byte [] = refl
 each_byte (x ∷ t) = ap (λ (l : List ℕ). x ∷ l) (each_byte t)
 
 -- A TEXT THAT FITS is on the page, and the rest of the page is as it was
-written_fits : (t m : List ℕ) (i : ℕ) → i + length t ≤ length m → written t (pen m i) ≡ pen (pasted i t m) (i + length t)
+pub written_fits : (t m : List ℕ) (i : ℕ) → i + length t ≤ length m → written t (pen m i) ≡ pen (pasted i t m) (i + length t)
 unfolding written
 written_fits [] m i h = ap₂ pen (sym (pasted_is i [] m h ∙ rw add-zero (take-append-drop i m))) (sym (add-zero i))
 written_fits (x ∷ t) m i h =
@@ -112,3 +112,7 @@ rendered_as e p =
       inside = p.inside;
       long = p.long;
     }
+
+-- and on a page that was empty it is the whole text
+pub holds : {a n : ℕ} {t : List ℕ} {p q : Pen} → a ≤ n → p ≡ pen (zeros n) 0 → Wrote a t p q → Holds n t q
+holds {n = n} h e f = rendered (omega (arith, h, zeros_length n)) (rw e at f)

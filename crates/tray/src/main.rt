@@ -1,133 +1,114 @@
 // A tray of bags from standard input, one after the other, each behind its length in four bytes. Each is
 // scanned on a fresh ledger of its own and has the lines that the scanner prints of it; how is left to
 // `scanning`. A length from 2^31 on is that of a name, which has a line of its own. Which bytes those lines
-// are is the contract of `put_next`. A program has one stored run, and this one's holds as many bags as
+// are is the contract of `page_of`. A program has one stored run, and this one's holds as many bags as
 // there are edges to show.
 #![tactic(auto)]
 
-ghost use Rattle.std.specs.Prelude.{◌≡◌, ◌≤◌, length};
+ghost use Rattle.std.specs.Prelude.{◌≤◌, length, IsOk};
 ghost use Rattle.refusals.specs.Rules.{answer};
 ghost use Rattle.text.specs.Words.{ascii, name_line};
 ghost use Rattle.text.specs.Answers.{answer_line};
-ghost use Rattle.text.specs.Pen.{Rendered};
-ghost use Rattle.tray.specs.Tray.{Whole, more_may_follow, lines_for};
+ghost use Rattle.text.specs.Pen.{Holds};
+ghost use Rattle.tray.specs.Tray.{Whole, lines_for};
 
 use refusals::Answer;
 use std::io::Read;
+use text::Page;
 
-// What comes next on the tray: a bag and its length, a name and its length, the end, or nothing whole.
+// What stands on the tray, and its length: a bag or a name.
 #[derive(Clone, Copy)]
-pub enum Next {
+pub enum Item {
     Bag(usize),
     Name(usize),
-    End,
-    Broken,
 }
 
-// Reads the n bytes of a bag to the start of a buffer.
-fn read_bag(input: &mut impl Read, buffer: &mut [u8], n: usize) -> Next
-    ensures { Whole result buffer.new }
+// What is neither a whole bag nor a whole name.
+#[derive(Clone, Copy)]
+pub struct Broken;
+
+// Reads n bytes to the start of a buffer.
+fn read_whole(input: &mut impl Read, buffer: &mut [u8], n: usize) -> Result<(), Broken>
+    ensures { IsOk result → n ≤ length buffer.new }
 {
-    if buffer.len() < n {
-        return Next::Broken;
+    if buffer.len() < n || lines::read_full(input, &mut buffer[0..n]) < n {
+        return Err(Broken);
     }
-    if lines::read_full(input, &mut buffer[0..n]) < n {
-        return Next::Broken;
-    }
-    Next::Bag(n)
+    Ok(())
 }
 
-// Reads the bytes of a name, at most 100.
-fn read_name(input: &mut impl Read, buffer: &mut [u8], n: usize) -> Next
-    ensures { Whole result buffer.new }
-{
-    if 100 < n {
-        return Next::Broken;
-    }
-    if buffer.len() < n {
-        return Next::Broken;
-    }
-    if lines::read_full(input, &mut buffer[0..n]) < n {
-        return Next::Broken;
-    }
-    Next::Name(n)
-}
-
-// Reads what comes next to the start of a buffer as long as the longest bag. A read that fails counts as
-// the tray's end.
-fn read_next(input: &mut impl Read, buffer: &mut [u8]) -> Next
+// Reads what comes next to the start of a buffer as long as the longest bag: a bag, a name of at most 100 bytes, or
+// nothing at the tray's end. A read that fails counts as the tray's end.
+fn read_next(input: &mut impl Read, buffer: &mut [u8]) -> Result<Option<Item>, Broken>
     ensures { Whole result buffer.new }
 {
     let mut head = [0u8; 4];
     let got = lines::read_full(input, &mut head);
     if got == 0 {
-        return Next::End;
+        return Ok(None);
     }
     if got < 4 {
-        return Next::Broken;
+        return Err(Broken);
     }
     let n = octets::le32(&head, 0) as usize;
     if n < 2147483648 {
-        return read_bag(input, buffer, n);
+        read_whole(input, buffer, n)?;
+        return Ok(Some(Item::Bag(n)));
     }
-    read_name(input, buffer, n - 2147483648)
-}
-
-fn goes_on(next: Next) -> bool
-    ensures { result ≡ more_may_follow next }
-{
-    match next {
-        Next::Bag(_) => true,
-        Next::Name(_) => true,
-        Next::End => false,
-        Next::Broken => false,
+    let name = n - 2147483648;
+    if 100 < name {
+        return Err(Broken);
     }
+    read_whole(input, buffer, name)?;
+    Ok(Some(Item::Name(name)))
 }
 
 // The line of a name.
-fn put_name(name: &[u8], out: &mut [u8; 640]) -> usize
+fn name_page(name: &[u8]) -> Page<640>
     requires { length name.now ≤ 100 }
-    ensures { Rendered (name_line name.now) out.old out.new result }
+    ensures { Holds 640 (name_line name.now) result }
 {
-    text::put_name_line(out, 0, name)
+    let mut page = Page::new();
+    page.put_name_line(name);
+    page
 }
 
 // The refusal of what is neither a whole bag nor a whole name.
-fn put_broken(out: &mut [u8; 640]) -> usize
-    ensures { Rendered (answer_line (ascii "tray") (answer 50 0)) out.old out.new result }
+fn broken_page() -> Page<640>
+    ensures { Holds 640 (answer_line (ascii "tray") (answer 50 0)) result }
 {
-    text::put_answer_line(out, 0, b"tray", Answer::refused(50, 0))
+    let mut page = Page::new();
+    page.put_answer_line(b"tray", Answer::refused(50, 0));
+    page
 }
 
-// The lines for what stands next, from the start of a buffer that always has room for them.
-fn put_next(next: Next, buffer: &[u8], out: &mut [u8; 640]) -> usize
+// The lines for what stands next, on a page that always has room for them.
+fn page_of(next: Result<Option<Item>, Broken>, buffer: &[u8]) -> Page<640>
     requires { Whole next buffer.now }
-    ensures { Rendered (lines_for next buffer.now) out.old out.new result }
+    ensures { Holds 640 (lines_for next buffer.now) result }
 {
     match next {
-        Next::Bag(n) => scanning::scan_lines(&buffer[..n], false, out),
-        Next::Name(n) => put_name(&buffer[..n], out),
-        Next::End => 0,
-        Next::Broken => put_broken(out),
+        Ok(Some(Item::Bag(n))) => scanning::scan_lines(&buffer[..n], false),
+        Ok(Some(Item::Name(n))) => name_page(&buffer[..n]),
+        Ok(None) => Page::new(),
+        Err(Broken) => broken_page(),
     }
 }
 
 // One bag or name, and whether the run goes on after it.
 fn turn(input: &mut impl Read, rt: &(impl Print + Eprint), buffer: &mut [u8]) -> bool {
     let next = read_next(input, buffer);
-    let mut out = [0u8; 640];
-    let end = put_next(next, buffer, &mut out);
-    lines::print(rt, &out[..end]) && goes_on(next)
+    let page = page_of(next, buffer);
+    lines::print(rt, page.text()) && matches!(next, Ok(Some(_)))
 }
 
-// A proved loop has to end, and nothing says that a tray does: the turns count down from a number that
-// no run uses up.
+// A proved loop has to end, and nothing says that a tray does: the turns are counted to a number that no run
+// uses up.
 fn play(input: &mut impl Read, rt: &(impl Print + Eprint), buffer: &mut [u8]) {
-    let mut on = true;
-    let mut turns = u64::MAX;
-    while turns > 0 && on {
-        on = turn(input, rt, buffer);
-        turns -= 1;
+    for _ in 0..u64::MAX {
+        if !turn(input, rt, buffer) {
+            break;
+        }
     }
 }
 

@@ -4,56 +4,47 @@
 #![tactic(auto)]
 
 ghost use Rattle.std.specs.Prelude.{◌+◌, ◌*◌, ◌≤◌, length};
-ghost use Rattle.text.specs.Pen.{pen, Wrote, Rendered};
+ghost use Rattle.text.specs.Pen.{Holds};
 ghost use Rattle.vectors.specs.Lines.{digest_line, refused_line};
 
+use text::Page;
 use tree::Tree;
 
-fn put_digest(out: &mut [u8], name: &[u8], bytes: &[u8]) -> usize
-    ensures { Wrote (length name.now + 2 * length bytes.now + 2) (digest_line name.now bytes.now) (pen out.old 0) (pen out.new result) }
-{
-    let named = text::put(out, 0, name);
-    let spaced = text::put(out, named, b" ");
-    let digits = text::put_hex(out, spaced, bytes);
-    text::put(out, digits, b"\n")
-}
-
-fn put_refused(out: &mut [u8], name: &[u8]) -> usize
-    ensures { Wrote (length name.now + 9) (refused_line name.now) (pen out.old 0) (pen out.new result) }
-{
-    let named = text::put(out, 0, name);
-    text::put(out, named, b" refused\n")
-}
-
-// The line of a digest, in a buffer that has room for a name of 64 bytes and a digest of 64.
-fn render_digest(out: &mut [u8; 256], name: &[u8], bytes: &[u8]) -> usize
+// The line of a digest, on a page that has room for a name of 64 bytes and a digest of 64.
+fn digest_page(name: &[u8], bytes: &[u8]) -> Page<256>
     requires { length name.now + 2 * length bytes.now ≤ 254 }
-    ensures { Rendered (digest_line name.now bytes.now) out.old out.new result }
+    ensures { Holds 256 (digest_line name.now bytes.now) result }
 {
-    put_digest(out, name, bytes)
+    let mut page = Page::new();
+    page.put(name);
+    page.put(b" ");
+    page.put_hex(bytes);
+    page.put(b"\n");
+    page
 }
 
-fn render_refused(out: &mut [u8; 256], name: &[u8]) -> usize
+fn refused_page(name: &[u8]) -> Page<256>
     requires { length name.now ≤ 64 }
-    ensures { Rendered (refused_line name.now) out.old out.new result }
+    ensures { Holds 256 (refused_line name.now) result }
 {
-    put_refused(out, name)
+    let mut page = Page::new();
+    page.put(name);
+    page.put(b" refused\n");
+    page
 }
 
 fn digest(rt: &(impl Print + Eprint), name: &[u8], bytes: &[u8])
     requires { length name.now + 2 * length bytes.now ≤ 254 }
 {
-    let mut line = [0u8; 256];
-    let end = render_digest(&mut line, name, bytes);
-    lines::print(rt, &line[..end]);
+    let page = digest_page(name, bytes);
+    lines::print(rt, page.text());
 }
 
 fn refused(rt: &(impl Print + Eprint), name: &[u8])
     requires { length name.now ≤ 64 }
 {
-    let mut line = [0u8; 256];
-    let end = render_refused(&mut line, name);
-    lines::print(rt, &line[..end]);
+    let page = refused_page(name);
+    lines::print(rt, page.text());
 }
 
 fn sha(rt: &(impl Print + Eprint), name: &[u8], message: &[u8])
@@ -63,24 +54,13 @@ fn sha(rt: &(impl Print + Eprint), name: &[u8], message: &[u8])
     digest(rt, name, &d);
 }
 
-// The first bytes, or all where there are no more.
-fn start(rt: &(impl Print + Eprint), name: &[u8], bytes: [u8; 64], most: usize)
-    requires { length name.now ≤ 64 }
-{
-    if most <= 64 {
-        digest(rt, name, &bytes[..most]);
-    } else {
-        digest(rt, name, &bytes);
-    }
-}
-
 fn blake(rt: &(impl Print + Eprint), name: &[u8], message: &[u8], size: usize)
     requires { length name.now ≤ 64 }
 {
     let answer = blake2b::hash(message, &[0u8; 16], size);
     if answer.ok {
-        let bytes = answer.bytes;
-        start(rt, name, bytes, size);
+        let n = size.min(64);
+        digest(rt, name, &answer.bytes[..n]);
     } else {
         refused(rt, name);
     }
@@ -139,8 +119,8 @@ fn compress_vectors(rt: &(impl Print + Eprint)) {
 // The 255 bytes 00, 01 and on to fe.
 fn counted() -> [u8; 255] {
     let mut bytes = [0u8; 255];
-    for i in 0..255 {
-        bytes[i] = (i % 256) as u8;
+    for (i, x) in bytes.iter_mut().enumerate() {
+        *x = (i % 256) as u8;
     }
     bytes
 }

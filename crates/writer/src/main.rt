@@ -3,19 +3,10 @@
 // written cannot be said in a contract, so the stored run holds it.
 #![tactic(auto)]
 
-ghost use Rattle.std.specs.Prelude.{◌≡◌, length};
-
 // A byte more than a form may have: what fills it is too long, however it goes on.
-fn input_buffer() -> [u8; 65537]
-    ensures { 65537 ≡ length result }
-{
-    [0; 65537]
-}
-
 fn main(rt: HostRuntime) {
-    let mut input = input_buffer();
+    let mut input = [0u8; 65537];
     let n = lines::read_full(&mut rt.stdin(), &mut input);
-    let mut out = [0u8; 4257];
-    let end = writing::print_form(&input[..n], &mut out);
-    lines::print(&rt, &out[..end]);
+    let page = writing::print_form(&input[..n]);
+    lines::print(&rt, page.text());
 }

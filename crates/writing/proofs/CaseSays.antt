@@ -9,7 +9,7 @@ use Rattle.casefile.specs.Layout.{part_of}
 use Rattle.desk.specs.Inputs.{is_worked_out, is_input}
 use Rattle.desk.specs.Drafts.{written}
 use Rattle.desk.proofs.ReadBack.{inputs_back}
-use Rattle.form.specs.declared.Formed.TheVariants.{Draft}
+use Rattle.std.specs.Prelude.{Ok}
 use Rattle.form.specs.Lines.{value_of}
 use Rattle.form.specs.Fields.{bytes_of, field_at}
 use Rattle.form.specs.Forms.{reading_of}
@@ -31,6 +31,6 @@ each_input : all_below (λ k. is_input (place k)) 28 ≡ true
 unfolding all_below is_input is_worked_out place places
 each_input = refl
 
-pub case_says : (s : List ℕ) (n : ℕ) → (reading_of s).formed ≡ Draft n → (k : ℕ) → k < 28
+pub case_says : (s : List ℕ) → (reading_of s).formed ≡ Ok tt → (k : ℕ) → k < 28
     → part_of (place k) (written (reading_of s).bytes) ≡ bytes_of (field_at k).kind (value_of (line_of s k))
-case_says s n q k h = (inputs_back (reading_of s).bytes (has_length_lem s n q)).inputs (place k) (at _ 28 each_input k h) ∙ (said s n q).draft k h
+case_says s q k h = (inputs_back (reading_of s).bytes (has_length_lem s q)).inputs (place k) (at _ 28 each_input k h) ∙ (said s q).draft k h

@@ -12,7 +12,8 @@ use Rattle.refusals.specs.Rules.{is_accepted}
 use Rattle.text.specs.Words.{ascii}
 use Rattle.text.specs.Answers.{answer_line}
 use Rattle.desk.specs.Drafts.{desk_answer, written, buffer_after}
-use Rattle.form.specs.declared.Formed.TheVariants.{Draft, Wrong, TooLong}
+use Rattle.form.specs.declared.FormError.{FormError}
+use Rattle.std.specs.Prelude.{Ok, Err}
 use Rattle.form.specs.Forms.{reading_of}
 use Rattle.form.specs.Faults.{fault_line}
 use Rattle.writing.specs.Printed.{answered, case_text, text_for, printed_of}
@@ -33,17 +34,13 @@ module _ (d b m : List ℕ) (a : Answer) (l : length b ≡ length d) (e : a ≡ 
   refused_case h = rw (sym own, h) (sym (append-nil (answer_line (ascii "desk") a)))
 
 -- by what reading gave
-pub of_draft : (s : List ℕ) (n : ℕ) → (reading_of s).formed ≡ Draft n → case_text (reading_of s).bytes ≡ printed_of s
+pub of_draft : (s : List ℕ) → (reading_of s).formed ≡ Ok tt → case_text (reading_of s).bytes ≡ printed_of s
 unfolding printed_of text_for
-of_draft s n h = rw h
+of_draft s h = rw h
 
-pub of_wrong : (s : List ℕ) (n k : ℕ) → (reading_of s).formed ≡ Wrong n k → fault_line (Wrong n k) ≡ printed_of s
+pub of_fault : (s : List ℕ) (e : FormError) → (reading_of s).formed ≡ Err e → fault_line e ≡ printed_of s
 unfolding printed_of text_for
-of_wrong s n k h = rw h
-
-pub of_too_long : (s : List ℕ) → (reading_of s).formed ≡ TooLong → fault_line TooLong ≡ printed_of s
-unfolding printed_of text_for
-of_too_long s h = rw h
+of_fault s e h = rw h
 
 -- a list at the start of another, as code cuts it out
 pub record Front (p m : List ℕ) (n : ℕ) : Type 0 where

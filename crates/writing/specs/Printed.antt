@@ -1,14 +1,13 @@
 -- What the writer prints for a form: the line that tells what is wrong with it; or the desk's answer as a line, and right behind it the bytes of the case, where
 -- it was written. s is the text, d a draft.
 -- Assumes nothing.
-use Rattle.std.specs.Prelude.{ℕ, cond, List, [], ◌++◌, length}
+use Rattle.std.specs.Prelude.{ℕ, cond, List, [], ◌++◌, length, Result, Ok, Err}
 use Rattle.refusals.specs.declared.Answer.{Answer}
 use Rattle.refusals.specs.Rules.{is_accepted}
 use Rattle.text.specs.Words.{ascii}
 use Rattle.text.specs.Answers.{answer_line}
 use Rattle.desk.specs.Drafts.{desk_answer, written}
-use Rattle.form.specs.declared.Formed.{Formed}
-use Rattle.form.specs.declared.Formed.TheVariants.{Draft, Wrong, TooLong}
+use Rattle.form.specs.declared.FormError.{FormError}
 use Rattle.form.specs.Forms.{reading_of}
 use Rattle.form.specs.Faults.{fault_line}
 
@@ -21,10 +20,9 @@ unfoldable pub case_text : List ℕ → List ℕ
 case_text d = answered d (desk_answer d (length d))
 
 -- of what reading gave
-unfoldable pub text_for : Formed → List ℕ → List ℕ
-text_for (Draft n) d = case_text d
-text_for (Wrong n k) d = fault_line (Wrong n k)
-text_for TooLong d = fault_line TooLong
+unfoldable pub text_for : Result (Unit {0}) FormError → List ℕ → List ℕ
+text_for (Ok u) d = case_text d
+text_for (Err e) d = fault_line e
 
 -- ALL OF IT
 unfoldable pub printed_of : List ℕ → List ℕ

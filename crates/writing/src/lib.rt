@@ -4,37 +4,42 @@
 #![tactic(auto)]
 
 ghost use Rattle.std.specs.Prelude.{◌≤◌, length};
-ghost use Rattle.text.specs.Pen.{pen, Wrote, Rendered};
+ghost use Rattle.text.specs.Pen.{Wrote, Holds};
 ghost use Rattle.writing.specs.Printed.{case_text, printed_of};
 
-use form::Formed;
 use refusals::Answer;
+use text::Page;
 
 // The desk's answer to a draft, and the case, where it is written.
-fn put_case(out: &mut [u8], draft: &[u8]) -> usize
+fn put_case(page: &mut Page<4257>, draft: &[u8])
     requires { length draft.now ≤ 4210 }
-    ensures { Wrote 4257 (case_text draft.now) (pen out.old 0) (pen out.new result) }
+    ensures { Wrote 4257 (case_text draft.now) page.old page.new }
 {
     let n = draft.len();
     let mut room = [0u8; 4210];
     let a = Answer::from(desk::write(draft, &mut room[..n]));
-    let answered = text::put_answer_line(out, 0, b"desk", a);
+    page.put_answer_line(b"desk", a);
     if a.is_accepted() {
-        return text::put(out, answered, &room[..n]);
+        page.put(&room[..n]);
     }
-    answered
 }
 
-// All that is printed for a text, from the start of a buffer that always has room for it. What lies behind it is as
-// it was.
-pub fn print_form(text: &[u8], out: &mut [u8; 4257]) -> usize
-    ensures { Rendered (printed_of text.now) out.old out.new result }
+// All that is printed for a text.
+fn put_form(page: &mut Page<4257>, text: &[u8])
+    ensures { Wrote 4257 (printed_of text.now) page.old page.new }
 {
-    let mut draft = [0u8; 4210];
-    let formed = form::read(text, &mut draft);
-    match formed {
-        Formed::Draft(n) => put_case(out, &draft[..n]),
-        Formed::Wrong(_, _) => form::put_fault(out, 0, formed),
-        Formed::TooLong => form::put_fault(out, 0, formed),
+    let mut draft = Page::new();
+    match form::read(text, &mut draft) {
+        Ok(()) => put_case(page, draft.text()),
+        Err(fault) => form::put_fault(page, fault),
     }
+}
+
+// The same on a page that always has room for it.
+pub fn print_form(text: &[u8]) -> Page<4257>
+    ensures { Holds 4257 (printed_of text.now) result }
+{
+    let mut page = Page::new();
+    put_form(&mut page, text);
+    page
 }

@@ -1,11 +1,13 @@
 use Prim.Native.Nat.{ℕ}
-use mathlib.Core.Path.{ap}
+use mathlib.Core.Path.{ap, ◌∙◌}
 use native.Mathlib.Omega.{arith}
-use Rattle.text.proofs.PenLaws.{text_as}
+use Rattle.text.proofs.PenLaws.{then, text_as}
 use Rattle.day.specs.Lines.{enter_line}
+use Rattle.day.proofs.LineLaws.{enter_as}
 use Rattle.day.proofs.put_entry.Goals as goal
 
 pub returns : goal.returns
+unfolding enter_line
 returns c =
-    let s = c.args in
-    text_as (omega arith) (ap (λ (x : ℕ). enter_line x s.ok) c.index.ensures) c.put_entered.ensures
+    text_as (omega arith) (enter_as _ _ ∙ ap (λ (x : ℕ). enter_line x c.args.ok) c.index.ensures)
+    (then c.put.ensures (then c.put_count.ensures (then c.put_yes_or_no.ensures c.put-2.ensures)))

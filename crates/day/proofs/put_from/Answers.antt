@@ -6,4 +6,4 @@ use Rattle.day.proofs.put_from.Goals as goal
 
 pub returns : goal.returns
 unfolding from_lines
-returns c = text_as (omega arith) refl (then c.put_both_in_place-next.ensures c.put_both_by_value.ensures)
+returns c = text_as (omega arith) refl (then c.put_both_in_place.ensures c.put_both_by_value.ensures)

@@ -6,4 +6,4 @@ use Rattle.day.proofs.put_full.Goals as goal
 
 pub returns : goal.returns
 unfolding full_lines
-returns c = text_as (omega arith) (simp append_assoc) (then c.put_from-seen_next.ensures (then c.put_from-seen_full.ensures (then c.put_from-passed_full.ensures c.put_from.ensures)))
+returns c = text_as (omega arith) (simp append_assoc) (then c.put_from.ensures (then c.put_from-2.ensures (then c.put_from-3.ensures c.put_from-4.ensures)))

@@ -7,6 +7,6 @@ pub returns-then-yes : goal.returns-then-yes
 unfolding yes_or_no
 returns-then-yes c = text_as (omega arith) (rw c.if-yes.true) c.put.ensures
 
-pub returns : goal.returns
+pub returns-else-yes : goal.returns-else-yes
 unfolding yes_or_no
-returns c = text_as (omega arith) (rw c.if-yes.false) c.put-2.ensures
+returns-else-yes c = text_as (omega arith) (rw c.if-yes.false) c.put-else-yes.ensures

@@ -8,10 +8,10 @@ use Rattle.form.proofs.put_expected.Goals as goal
 
 pub returns-then-k-lt-COUNT : goal.returns-then-k-lt-COUNT
 unfolding field_words
-returns-then-k-lt-COUNT c =
+returns-then-k-lt-COUNT g c =
     text_as (omega arith) (rw (lt-ltb _ 28 c.if-k-lt-COUNT.true, sym c.kind_of.ensures) (simp append_assoc))
-    (then c.put_name-named.ensures (then c.put-asked.ensures c.put_kind.ensures))
+    (then c.put_name.ensures (then c.put.ensures c.put_kind.ensures))
 
-pub returns : goal.returns
+pub returns-else-k-lt-COUNT : goal.returns-else-k-lt-COUNT
 unfolding field_words
-returns c = text_as (omega arith) (rw (le-ltb _ 28 c.if-k-lt-COUNT.false)) c.put.ensures
+returns-else-k-lt-COUNT g c = text_as (omega arith) (rw (le-ltb _ 28 c.if-k-lt-COUNT.false)) c.put-else-k-lt-COUNT.ensures

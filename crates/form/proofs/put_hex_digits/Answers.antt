@@ -6,4 +6,4 @@ use Rattle.form.proofs.put_hex_digits.Goals as goal
 
 pub returns : goal.returns
 unfolding kind_words
-returns c = text_as (omega arith) (simp append_assoc) (then c.put_count-counted.ensures c.put.ensures)
+returns g c = text_as (omega arith) (simp append_assoc) (then c.put_count.ensures c.put.ensures)

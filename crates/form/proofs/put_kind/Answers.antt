@@ -6,15 +6,15 @@ use Rattle.form.proofs.put_kind.Goals as goal
 
 pub returns-in-Amount : goal.returns-in-Amount
 unfolding kind_words
-returns-in-Amount c = rw c.in-Amount.is (text_as (omega arith) refl c.put_count.ensures)
+returns-in-Amount g c = rw c.in-Amount.is (text_as (omega arith) refl c.put_count.ensures)
 
 pub returns-in-Position : goal.returns-in-Position
 unfolding kind_words
-returns-in-Position c = rw c.in-Position.is (text_as (omega arith) refl c.put_count-in-Position.ensures)
+returns-in-Position g c = rw c.in-Position.is (text_as (omega arith) refl c.put_count-in-Position.ensures)
 
 pub returns-in-Hex : goal.returns-in-Hex
-returns-in-Hex c = rw c.in-Hex.is (text_as (omega arith) refl c.put_hex_digits.ensures)
+returns-in-Hex g c = rw c.in-Hex.is (text_as (omega arith) refl c.put_hex_digits.ensures)
 
 pub returns-in-Proof : goal.returns-in-Proof
 unfolding kind_words
-returns-in-Proof c = rw c.in-Proof.is (text_as (omega arith) refl c.put.ensures)
+returns-in-Proof g c = rw c.in-Proof.is (text_as (omega arith) refl c.put.ensures)

@@ -6,4 +6,4 @@ use Rattle.form.proofs.put_wrong.Goals as goal
 
 pub returns : goal.returns
 unfolding wrong_line
-returns c = text_as (omega arith) (simp append_assoc) (then c.put_count-counted.ensures (then c.put-parted.ensures (then c.put_expected-told.ensures c.put.ensures)))
+returns g c = text_as (omega arith) (simp append_assoc) (then c.put_count.ensures (then c.put.ensures (then c.put_expected.ensures c.put-2.ensures)))

@@ -1,15 +1,8 @@
-use Rattle.text.proofs.PenLaws.{rendered, rendered_as}
-use Rattle.packing.proofs.TextLaws.{text_as_of, kind_known}
-use Rattle.std.proofs.Common.{rules}
+use Rattle.std.proofs.Common.{ap₂, arith}
+use Rattle.text.proofs.PenLaws.{holds, rendered_as}
+use Rattle.packing.specs.Packing.{text_by, text_of}
 use Rattle.packing.proofs.pack.Goals as goal
 
-pub case_count-cases-requires : goal.case_count-cases-requires
-case_count-cases-requires c = rw c.kind_named-kind.ensures (kind_known _)
-
-pub put_text-requires : goal.put_text-requires
-put_text-requires c = rw c.kind_named-kind.ensures (kind_known _)
-
 pub returns : goal.returns
-returns c =
-    rendered_as (text_as_of _ _ _ _ _ _ c.up_to-line.ensures c.behind-bytes.ensures c.word.ensures c.kind_named-kind.ensures c.case_count-cases.ensures)
-    (rendered (search rules) c.put_text.ensures)
+unfolding text_of
+returns c = rendered_as (ap₂ text_by c.up_to.ensures c.behind.ensures) (holds {n = 65616} (omega arith) c.new-page.ensures c.put_text.ensures)

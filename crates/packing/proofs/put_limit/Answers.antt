@@ -10,8 +10,8 @@ returns-then-kind-k c =
     let a = c.args in
     text_as (omega arith) (sym (rw (lt-ltb a.kind a.k c.if-kind-k.true))) c.put.ensures
 
-pub returns : goal.returns
+pub returns-else-kind-k : goal.returns-else-kind-k
 unfolding limit_bytes
-returns c =
+returns-else-kind-k c =
     let a = c.args in
     text_as (omega arith) (sym (rw (le-ltb a.kind a.k c.if-kind-k.false) (sym (ap (λ (x : List ℕ). float_bytes (number_of x)) c.word.ensures)))) c.put_float.ensures

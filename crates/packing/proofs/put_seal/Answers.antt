@@ -6,4 +6,4 @@ use Rattle.packing.proofs.put_seal.Goals as goal
 pub returns : goal.returns
 returns c =
     text_as (omega arith) (seal_as c.args.kind c.args.line.now _ c.requires c.word.ensures)
-    (then c.put-kinded.ensures (then c.put_limit-low.ensures (then c.put_limit-high.ensures c.put_float.ensures)))
+    (then c.put.ensures (then c.put_limit.ensures (then c.put_limit-2.ensures c.put_float.ensures)))

@@ -2,4 +2,4 @@ use Rattle.text.proofs.PenLaws.{then}
 use Rattle.packing.proofs.put_sentence.Goals as goal
 
 pub returns : goal.returns
-returns c = then c.put_count-next.ensures c.put.ensures
+returns c = then c.put_count.ensures c.put.ensures

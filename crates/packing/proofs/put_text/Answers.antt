@@ -1,21 +1,13 @@
-use Rattle.std.proofs.Common.{sym, ap, ◌∙◌, arith}
-use Rattle.text.proofs.PenLaws.{then, text_as}
-use Rattle.packing.specs.Packing.{is_packed}
-use Rattle.packing.proofs.TextLaws.{text_packed, text_refused}
-use Rattle.packing.proofs.VerdictLaws.{ready, known_gate}
+use Rattle.std.proofs.Common.{sym, ◌∙◌, arith}
+use Rattle.text.proofs.PenLaws.{text_as}
+use Rattle.packing.proofs.TextLaws.{kind_of, text_of_kind, text_of_none}
 use Rattle.packing.proofs.put_text.Goals as goal
 
-pub put_bag-requires : goal.put_bag-requires
-put_bag-requires c =
-    let s = ready c.args.kind c.args.cases c.args.line.now c.args.bytes.now (sym (ap is_packed c.verdict-v.ensures) ∙ sym c.is_packed.ensures ∙ c.if-is_packed.true) in record {
-      kind_bound = known_gate c.args.kind c.requires s.gate;
-      cases_bound = s.few;
-      line_value = s.named;
-      bytes_bound = s.short;
-    }
+pub put_packed-requires : goal.put_packed-requires
+put_packed-requires c = (kind_of _ _ (sym c.kind_named.ensures ∙ c.in-Some.is)).1
 
-pub returns-then-is_packed : goal.returns-then-is_packed
-returns-then-is_packed c = text_as (omega arith) (text_packed _ _ _ _ _ c.verdict-v.ensures (sym c.is_packed.ensures ∙ c.if-is_packed.true)) (then c.put_head-headed.ensures c.put_bag.ensures)
+pub returns-in-Some : goal.returns-in-Some
+returns-in-Some c = text_as (omega arith) (text_of_kind _ _ _ c.word.ensures _ (sym c.kind_named.ensures ∙ c.in-Some.is)) c.put_packed.ensures
 
-pub returns : goal.returns
-returns c = text_as (omega arith) (text_refused _ _ _ _ _ c.verdict-v.ensures (sym c.is_packed.ensures ∙ c.if-is_packed.false)) c.put_head-headed.ensures
+pub returns-in-None : goal.returns-in-None
+returns-in-None c = text_as (omega arith) (text_of_none _ _ _ c.word.ensures (sym c.kind_named.ensures ∙ c.in-None.is)) c.put_error.ensures

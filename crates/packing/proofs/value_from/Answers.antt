@@ -15,17 +15,17 @@ overflow_mul-n c =
 pub overflow_sub-n : goal.overflow_sub-n
 overflow_sub-n c =
     let p = c.loop-i in
-    omega (arith, c.wide.ensures, digit_low _ (this_digit _ _ p.n p.i (omega arith) p.invariant.1.1))
+    omega (arith, c.from.ensures, digit_low _ (this_digit _ _ p.n p.i (omega arith) p.invariant.1.1))
 
 pub overflow_add-n : goal.overflow_add-n
 overflow_add-n c =
     let p = c.loop-i in
-    omega (arith, c.wide.ensures, below_most _ _ p.n p.i (omega arith) p.invariant.1.1, digit_high _ (this_digit _ _ p.n p.i (omega arith) p.invariant.1.1))
+    omega (arith, c.from.ensures, below_most _ _ p.n p.i (omega arith) p.invariant.1.1, digit_high _ (this_digit _ _ p.n p.i (omega arith) p.invariant.1.1))
 
 pub loop-i-preserved : goal.loop-i-preserved
 loop-i-preserved c =
     let p = c.loop-i in
-    (search rules, (refl, rw c.wide.ensures (turn _ _ p.n p.i (omega arith) p.invariant.1.1)))
+    (search rules, (refl, rw c.from.ensures (turn _ _ p.n p.i (omega arith) p.invariant.1.1)))
 
 pub returns : goal.returns
 returns c =

@@ -1,4 +1,4 @@
-use Rattle.std.proofs.Common.{ℕ, sym, arith}
+use Rattle.std.proofs.Common.{ℕ, sym}
 use lib.ListN.{length-replicate}
 use Rattle.replay.proofs.main.Goals as goal
 
@@ -11,10 +11,3 @@ slice_bounds-play-end-2 c = sym (length-replicate {0} {A = ℕ} 2097247 0)
 
 pub slice_bounds-play-end-3 : goal.slice_bounds-play-end-3
 slice_bounds-play-end-3 c = sym (length-replicate {0} {A = ℕ} 131167 0)
-
-pub slice_bounds-play-end-4 : goal.slice_bounds-play-end-4
-slice_bounds-play-end-4 c = sym (length-replicate {0} {A = ℕ} 219136 0)
-
--- the text's buffer is as long as the longest text
-pub play-requires : goal.play-requires
-play-requires c = omega (arith, length-replicate {0} {A = ℕ} 219136 0)

@@ -1,23 +1,24 @@
-use Rattle.std.proofs.Common.{◌≡◌, sym, ap, arith, length-take-le}
+use Rattle.std.proofs.Common.{◌≡◌, sym, ap, ◌∙◌, arith}
+use Rattle.std.specs.Prelude.{Ok, Some, None}
 use Rattle.text.proofs.PenLaws.{start}
-use Rattle.replay.specs.declared.Next.{Next}
-use Rattle.replay.specs.Tape.{next_turn, entry_length}
+use Rattle.replay.specs.Tape.{Next, next_turn}
 use Rattle.replay.proofs.TurnLaws.{plays_as, nowhere, plays, plays_broken}
 use Rattle.replay.proofs.play_next.Goals as goal
 
-pub slice_bounds-run-end : goal.slice_bounds-run-end
-slice_bounds-run-end c =
-    let e : entry_length c.args.next ≡ c.in-Entry.n = ap entry_length c.in-Entry.is in
-    sym (length-take-le _ _ (omega (arith, c.requires.next_in_bounds)))
-
-pub returns-in-Entry : goal.returns-in-Entry
+pub returns-in-Ok-Some : goal.returns-in-Ok-Some
 unfolding next_turn
-returns-in-Entry c = plays_as (ap (λ (y : Next). next_turn y c.args.buffer.now c.args.table.now c.args.roll.now c.args.state) (sym c.in-Entry.is)) c.run.ensures
+returns-in-Ok-Some c =
+    let q = c.in-Ok-Some in
+    let some : q.field-0 ≡ Some q.e = rw q.is at q.field-0-is in
+    plays_as (ap (λ (y : Next). next_turn y c.args.buffer.now c.args.table.now c.args.roll.now c.args.state) (sym (q.is ∙ ap Ok some))) c.run.ensures
 
-pub returns-in-End : goal.returns-in-End
+pub returns-in-Ok-None : goal.returns-in-Ok-None
 unfolding next_turn
-returns-in-End c = plays_as (ap (λ (y : Next). next_turn y c.args.buffer.now c.args.table.now c.args.roll.now c.args.state) (sym c.in-End.is)) (plays (omega arith) c.nothing-state.ensures (nowhere _ _ _) (start _))
+returns-in-Ok-None c =
+    let q = c.in-Ok-None in
+    let none : q.field-0 ≡ None = rw q.is at q.field-0-is in
+    plays_as (ap (λ (y : Next). next_turn y c.args.buffer.now c.args.table.now c.args.roll.now c.args.state) (sym (q.is ∙ ap Ok none))) (plays (omega arith) c.nothing.ensures (nowhere _ _ _) (start _))
 
-pub returns-in-Broken : goal.returns-in-Broken
+pub returns-in-Err : goal.returns-in-Err
 unfolding next_turn
-returns-in-Broken c = plays_as (ap (λ (y : Next). next_turn y c.args.buffer.now c.args.table.now c.args.roll.now c.args.state) (sym c.in-Broken.is)) (plays_broken c.broken.ensures.state_value c.broken.ensures.wrote)
+returns-in-Err c = plays_as (ap (λ (y : Next). next_turn y c.args.buffer.now c.args.table.now c.args.roll.now c.args.state) (sym c.in-Err.is)) (plays_broken c.break_off.ensures.state_value c.break_off.ensures.wrote)

@@ -6,4 +6,4 @@ use Rattle.replay.proofs.put_hash.Goals as goal
 pub returns : goal.returns
 returns c =
     let w = c.args.word.now in
-    text_as (omega arith) (ap (λ (h : List ℕ). w ++ hex h) c.hash-h.ensures) c.put_named.ensures
+    text_as (omega arith) (ap (λ (h : List ℕ). w ++ hex h) c.hash.ensures) c.put_named.ensures

@@ -4,4 +4,4 @@ use Rattle.replay.proofs.LookLaws.{memory_as}
 use Rattle.replay.proofs.put_memory.Goals as goal
 
 pub returns : goal.returns
-returns c = text_as (omega arith) (memory_as _ _ _) (then c.put_hash-first.ensures (then c.put_hash-second.ensures (then c.put_hash-third.ensures c.put.ensures)))
+returns c = text_as (omega arith) (memory_as _ _ _) (then c.put_hash.ensures (then c.put_hash-2.ensures (then c.put_hash-3.ensures c.put.ensures)))

@@ -5,4 +5,4 @@ use Rattle.replay.proofs.put_row.Goals as goal
 
 pub returns : goal.returns
 unfolding row_line
-returns c = text_as (omega arith) refl (then c.put_named-next.ensures c.put.ensures)
+returns c = text_as (omega arith) refl (then c.put_named.ensures c.put.ensures)

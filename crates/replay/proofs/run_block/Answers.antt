@@ -10,5 +10,5 @@ slice_bounds-close-end-3 c = sym (length-take-le _ _ c.requires.roll)
 
 pub returns : goal.returns
 returns c =
-    block_plays _ _ _ _ _ _ _ _ _ c.requires c.close-a.ensures.answer_value c.close-a.ensures.ledger_value c.close-a.ensures.roll_after c.close-a.auto.roll
-    c.put_answer_line-end.ensures c.going_on-state.ensures
+    block_plays _ _ _ _ _ _ _ _ c.requires c.close-a.ensures.answer_value c.close-a.ensures.ledger_value c.close-a.ensures.roll_after c.close-a.auto.roll
+    c.put_answer_line.ensures c.going_on.ensures

@@ -10,5 +10,5 @@ slice_bounds-open-end-2 c = sym (length-take-le _ _ c.requires.roll)
 
 pub returns : goal.returns
 returns c =
-    fresh_plays _ _ _ _ _ _ _ _ _ c.requires c.open-a.ensures.answer_value c.open-a.ensures.ledger_value c.open-a.ensures.roll_after c.open-a.auto.roll
-    c.put_answer_line-end.ensures c.going_on-state.ensures
+    fresh_plays _ _ _ _ _ _ _ _ c.requires c.open-a.ensures.answer_value c.open-a.ensures.ledger_value c.open-a.ensures.roll_after c.open-a.auto.roll
+    c.put_answer_line.ensures c.going_on.ensures

@@ -18,9 +18,9 @@ slice_bounds-opened-end-then-can_lend-3 c = sym (length-take-le _ _ (lent_roll _
 
 pub returns-then-can_lend : goal.returns-then-can_lend
 returns-then-can_lend c =
-    open_plays _ _ _ _ _ _ _ _ _ _ _ _ _ c.le32-n.ensures c.le32-m.ensures c.can_lend.ensures c.if-can_lend.true c.opened-a.ensures.answer_value
-    c.opened-a.ensures.ledger_value c.opened-a.ensures.table_after c.opened-a.ensures.roll_after c.opened-a.auto.roll c.put_answer_line-end.ensures c.going_on-state.ensures
+    open_plays _ _ _ _ _ _ _ _ _ _ _ _ c.le32-n.ensures c.le32-m.ensures c.can_lend.ensures c.if-can_lend.true c.opened-a.ensures.answer_value
+    c.opened-a.ensures.ledger_value c.opened-a.ensures.table_after c.opened-a.ensures.roll_after c.opened-a.auto.roll c.put_answer_line.ensures c.going_on.ensures
 
 pub returns : goal.returns
 unfolding open_turn
-returns c = plays_as (lends_by _ _ _ _ c.le32-n.ensures c.le32-m.ensures c.can_lend.ensures c.if-can_lend.false) (plays_broken c.broken.ensures.state_value c.broken.ensures.wrote)
+returns c = plays_as (lends_by _ _ _ _ c.le32-n.ensures c.le32-m.ensures c.can_lend.ensures c.if-can_lend.false) (plays_broken c.break_off.ensures.state_value c.break_off.ensures.wrote)

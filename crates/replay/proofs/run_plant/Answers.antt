@@ -27,9 +27,9 @@ shape_of-table-then-can_lend c = length_front {A = ℕ} c.args.table.now c.fill.
 
 pub returns-then-can_lend : goal.returns-then-can_lend
 returns-then-can_lend c =
-    plant_plays _ _ _ _ _ _ _ _ _ _ _ _ _ _ _ c.le32-n.ensures c.le32-m.ensures (c.can_lend.ensures ∙ by_length _ _ _ _ _ _ c.plant_length.ensures) c.if-can_lend.true c.fill.ensures
-    c.fill-then-can_lend.ensures c.accepted.ensures c.read.ensures c.put_answer_line-end.ensures c.going_on-state.ensures
+    plant_plays _ _ _ _ _ _ _ _ _ _ _ _ _ _ c.le32-n.ensures c.le32-m.ensures (c.can_lend.ensures ∙ by_length _ _ _ _ _ _ c.plant_length.ensures) c.if-can_lend.true c.fill.ensures
+    c.fill-then-can_lend.ensures c.accepted.ensures c.read.ensures c.put_answer_line.ensures c.going_on.ensures
 
 pub returns : goal.returns
 unfolding plant_turn
-returns c = plays_as (lends_by _ _ _ _ c.le32-n.ensures c.le32-m.ensures (c.can_lend.ensures ∙ by_length _ _ _ _ _ _ c.plant_length.ensures) c.if-can_lend.false) (plays_broken c.broken.ensures.state_value c.broken.ensures.wrote)
+returns c = plays_as (lends_by _ _ _ _ c.le32-n.ensures c.le32-m.ensures (c.can_lend.ensures ∙ by_length _ _ _ _ _ _ c.plant_length.ensures) c.if-can_lend.false) (plays_broken c.break_off.ensures.state_value c.break_off.ensures.wrote)

@@ -13,7 +13,7 @@ pub lay_rows-requires : goal.lay_rows-requires
 lay_rows-requires c = can_lay_whole _ _ c.can_lay.ensures c.if-can_lay.true
 
 pub returns-then-can_lay : goal.returns-then-can_lay
-returns-then-can_lay c = roll_laid_plays _ _ _ _ _ _ _ _ _ _ c.requires c.accepted.ensures c.put_answer_line-end.ensures c.can_lay.ensures c.if-can_lay.true c.lay_rows.ensures c.lay_rows.auto.bytes
+returns-then-can_lay c = roll_laid_plays _ _ _ _ _ _ _ _ _ c.requires c.accepted.ensures c.put_answer_line.ensures c.can_lay.ensures c.if-can_lay.true c.lay_rows.ensures c.lay_rows.auto.bytes
 
 pub returns : goal.returns
-returns c = plays_as (roll_broken _ _ _ _ c.can_lay.ensures c.if-can_lay.false) (plays_broken c.broken.ensures.state_value c.broken.ensures.wrote)
+returns c = plays_as (roll_broken _ _ _ _ c.can_lay.ensures c.if-can_lay.false) (plays_broken c.break_off.ensures.state_value c.break_off.ensures.wrote)

@@ -7,6 +7,6 @@ pub returns-then-rows : goal.returns-then-rows
 unfolding case_text
 returns-then-rows c = text_as (omega arith) (rw c.if-rows.true) c.put_answer_and_row.ensures
 
-pub returns : goal.returns
+pub returns-else-rows : goal.returns-else-rows
 unfolding case_text
-returns c = text_as (omega arith) (rw c.if-rows.false) c.put_answer_line.ensures
+returns-else-rows c = text_as (omega arith) (rw c.if-rows.false) c.put_answer_line.ensures

@@ -1,8 +1,8 @@
--- After i turns the lines of the first i answers are on the page; the loop ends at n or at 7, whichever is less, and there are seven answers, so these are the first n.
+-- The lines of the answers up to the index are on the page; at the end these are all.
 use Rattle.std.proofs.Common.{◌*◌, take}
-use Rattle.text.specs.Pen.{pen, Wrote}
+use Rattle.text.specs.Pen.{Wrote}
 use Rattle.scanning.specs.Lines.{case_lines}
 use Rattle.scanning.proofs.put_cases.Given as goal
 
-abbrev pub invariant-loop-i : goal.invariant-loop-i
-invariant-loop-i l = Wrote (72 * l.i) (case_lines l.rows (take l.i l.answers)) (pen l.initial.out l.at) (pen l.out l.next)
+abbrev pub invariant-loop-a : goal.invariant-loop-a
+invariant-loop-a l = Wrote (72 * l.a-index) (case_lines l.rows (take l.a-index l.answers)) l.initial.page l.page

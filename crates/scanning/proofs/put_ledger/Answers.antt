@@ -6,4 +6,4 @@ use Rattle.scanning.proofs.put_ledger.Goals as goal
 pub returns : goal.returns
 returns c =
     text_as (omega arith) (ledger_as _ c.zatoshi.ensures)
-    (then c.put_count-spent.ensures (then c.put_count-leaves.ensures (then c.put_count-money.ensures c.put.ensures)))
+    (then c.put_count.ensures (then c.put_count-2.ensures (then c.put_count-3.ensures c.put.ensures)))

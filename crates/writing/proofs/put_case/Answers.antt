@@ -23,10 +23,10 @@ returns-then-is_accepted c =
     text_as (omega (arith, f.long, c.requires))
     (ap (λ (m : List ℕ). answer_line (ascii "desk") c.from-a.result ++ m) f.text
     ∙ accepted_case _ _ _ _ (lent n c.requires) (c.from-a.ensures ∙ c.write.ensures.value) c.write.ensures.buffer_after (sym c.is_accepted.ensures ∙ c.if-is_accepted.true))
-    (then c.put_answer_line-answered.ensures c.put.ensures)
+    (then c.put_answer_line.ensures c.put.ensures)
 
-pub returns : goal.returns
-returns c =
+pub returns-else-is_accepted : goal.returns-else-is_accepted
+returns-else-is_accepted c =
     text_as (omega arith)
     (refused_case _ _ _ _ (lent _ c.requires) (c.from-a.ensures ∙ c.write.ensures.value) c.write.ensures.buffer_after (sym c.is_accepted.ensures ∙ c.if-is_accepted.false))
-    c.put_answer_line-answered.ensures
+    c.put_answer_line.ensures

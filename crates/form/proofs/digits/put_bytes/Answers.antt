@@ -1,6 +1,6 @@
 -- After i turns the first i bytes are on the page, each a text of its own of one byte; at the end these are all that the digits say.
 use Prim.Native.Nat.{ℕ, ◌+◌, ◌*◌, ◌/◌, ◌<◌}
-use mathlib.Core.Path.{refl, sym, ap, ◌∙◌}
+use mathlib.Core.Path.{sym, ap, ◌∙◌}
 use mathlib.Core.List.{[], ◌∷◌, flat_map}
 use native.Mathlib.Omega.{arith}
 use lib.ListN.{length, take}
@@ -8,12 +8,11 @@ use lib.Seq.{take_all}
 use Rattle.text.proofs.PenLaws.{start, one_more, each_byte, text_as}
 use Rattle.form.specs.Digits.{is_hex_digit, bytes_in}
 use Rattle.form.proofs.DigitLaws.{every_at, hex_worth, bytes_in_length, bytes_in_at}
-use borrow.Author.Rules.{rules}
 use Rattle.form.proofs.digits.put_bytes.Goals as goal
 
 pub loop-i-init : goal.loop-i-init
 unfolding flat_map
-loop-i-init c = (search rules, (search rules, (refl, start _)))
+loop-i-init c = start _
 
 pub byte_of-requires : goal.byte_of-requires
 byte_of-requires c =
@@ -25,12 +24,11 @@ pub loop-i-preserved : goal.loop-i-preserved
 loop-i-preserved c =
     let d = c.args.digits.now in
     let i = c.loop-i.i in
-    let v = c.loop-i.invariant in
     let h : i < length d / 2 = omega arith in
-    let e = text_as {b = 1} (omega arith) (ap (λ (x : ℕ). x ∷ []) (c.byte_of.ensures ∙ sym (bytes_in_at d i h))) c.put-next.ensures in
-    (search rules, (v.1.0, (c.put-next.auto.out ∙ v.1.1.0, one_more {A = ℕ} (λ x. x ∷ []) (bytes_in d) i 0 (omega (arith, bytes_in_length d)) v.1.1.1 e)))
+    let e = text_as {b = 1} (omega arith) (ap (λ (x : ℕ). x ∷ []) (c.byte_of.ensures ∙ sym (bytes_in_at d i h))) c.put.ensures in
+    one_more {A = ℕ} (λ x. x ∷ []) (bytes_in d) i 0 (omega (arith, bytes_in_length d)) c.loop-i.invariant e
 
 pub returns : goal.returns
 returns c =
     let d = c.args.digits.now in
-    text_as (omega arith) (each_byte (take c.loop-i.i (bytes_in d)) ∙ take_all c.loop-i.i (bytes_in d) (omega (arith, bytes_in_length d))) c.loop-i.invariant.1.1.1
+    text_as (omega arith) (each_byte (take c.loop-i.i (bytes_in d)) ∙ take_all c.loop-i.i (bytes_in d) (omega (arith, bytes_in_length d))) c.loop-i.invariant

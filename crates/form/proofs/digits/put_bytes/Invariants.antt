@@ -1,14 +1,9 @@
 -- After i turns the first i bytes are on the page, each a text of its own of one byte; at the end these are all that the digits say.
-use Prim.Native.Nat.{◌-◌, ◌*◌, ◌/◌, ◌≤◌}
-use mathlib.Core.Path.{◌≡◌}
-use mathlib.Core.List.{[], ◌∷◌, flat_map}
-use lib.ListN.{length, take}
-use Rattle.text.specs.Pen.{pen, Wrote}
+use Rattle.std.proofs.Common.{◌*◌, [], ◌∷◌, take}
+use mathlib.Core.List.{flat_map}
+use Rattle.text.specs.Pen.{Wrote}
 use Rattle.form.specs.Digits.{bytes_in}
 use Rattle.form.proofs.digits.put_bytes.Given as goal
 
 abbrev pub invariant-loop-i : goal.invariant-loop-i
-invariant-loop-i l = (l.i ≤ l.i-end) × ((l.i-end ≡ length l.digits / 2) × ((length l.out ≡ length l.initial.out) × Wrote (1 * l.i) (flat_map (λ x. x ∷ []) (take l.i (bytes_in l.digits))) (pen l.initial.out l.at) (pen l.out l.next)))
-
-abbrev pub decreases-loop-i : goal.decreases-loop-i
-decreases-loop-i l = l.i-end - l.i
+invariant-loop-i l = Wrote (1 * l.i) (flat_map (λ x. x ∷ []) (take l.i (bytes_in l.digits))) l.initial.page l.page

@@ -10,20 +10,14 @@ use Rattle.form.proofs.fields.put_field.Goals as goal
 pub shape_of-shape-requires : goal.shape_of-shape-requires
 shape_of-shape-requires c = in_table _ _ c.requires.1
 
-pub put_zeros-start-requires : goal.put_zeros-start-requires
-put_zeros-start-requires c = omega (arith, c.shape_of-shape.ensures.result_value, gap_short _ (in_table _ _ c.requires.1))
-
-pub slice_bounds-digits-end : goal.slice_bounds-digits-end
-slice_bounds-digits-end c = c.put_value-n.ensures.inside
-
-pub slice_bounds-put_digits-end : goal.slice_bounds-put_digits-end
-slice_bounds-put_digits-end c = c.put_value-n.ensures.long
+pub put_zeros-requires : goal.put_zeros-requires
+put_zeros-requires c = omega (arith, c.shape_of-shape.ensures.result_value, gap_short _ (in_table _ _ c.requires.1))
 
 pub put_digits-requires : goal.put_digits-requires
-put_digits-requires c = ap₂ accepts c.shape_of-shape.ensures.result_value_2 c.put_value-n.ensures.text ∙ accepted _ _ c.requires.1
+put_digits-requires c = ap₂ accepts c.shape_of-shape.ensures.result_value_2 (c.text.ensures ∙ c.value-digits.ensures.text) ∙ accepted _ _ c.requires.1
 
 pub returns : goal.returns
 unfolding field_bytes
 returns c =
     text_as (omega (arith, c.shape_of-shape.ensures.result_value, ap (size_of 296) c.shape_of-shape.ensures.result_value_2))
-    (ap₂ ◌++◌ (ap zeros c.shape_of-shape.ensures.result_value) (ap₂ bytes_of c.shape_of-shape.ensures.result_value_2 c.put_value-n.ensures.text)) (then c.put_zeros-start.ensures c.put_digits.ensures)
+    (ap₂ ◌++◌ (ap zeros c.shape_of-shape.ensures.result_value) (ap₂ bytes_of c.shape_of-shape.ensures.result_value_2 (c.text.ensures ∙ c.value-digits.ensures.text))) (then c.put_zeros.ensures c.put_digits.ensures)

@@ -7,4 +7,4 @@ use Rattle.form.proofs.LineLaws.{cut_before}
 use Rattle.form.proofs.fields.put_name.Goals as goal
 
 pub returns : goal.returns
-returns c = text_as (simp length-take (omega arith)) (cut_before Blank _ _ c.up_to-n.ensures.value ∙ c.cell-name.ensures) c.put.ensures
+returns g c = text_as (simp length-take (omega arith)) (cut_before Blank _ _ c.up_to-n.ensures.value ∙ c.cell-name.ensures) c.put.ensures

@@ -1,25 +1,28 @@
--- After i turns the first i bytes are on the page, each by its own text, which is empty for a blank; at the end these are all bytes.
-use Prim.Native.Nat.{ℕ}
-use mathlib.Core.Path.{refl, ap, ◌∙◌}
+use Rattle.std.proofs.Common.{ℕ, sym, ap, ◌∙◌, get_or, refl, arith}
+use mathlib.Core.Bool.{not}
 use mathlib.Core.List.{flat_map}
-use native.Mathlib.Omega.{arith}
 use lib.Seq.{take_all}
+use borrow.Author.Tests.{not-true, not-false}
+use Rattle.text.specs.Pen.{Wrote}
 use Rattle.text.proofs.PenLaws.{start, one_more, text_as}
 use Rattle.form.specs.Lines.{ink_of}
-use borrow.Author.Rules.{rules}
 use Rattle.form.proofs.lines.put_without_blanks.Goals as goal
+use Rattle.form.proofs.lines.put_without_blanks.Goals.{then-not-is_blank, else-not-is_blank}
 
-pub loop-i-init : goal.loop-i-init
+pub loop-x-init : goal.loop-x-init
 unfolding flat_map
-loop-i-init c = (search rules, (search rules, (refl, start _)))
+loop-x-init c = start _
 
-pub loop-i-preserved : goal.loop-i-preserved
-loop-i-preserved c =
-    let s = c.args.s.now in
-    let v = c.loop-i.invariant in
-    (search rules, (refl, (c.put_ink-next.auto.out ∙ v.1.1.0, one_more {A = ℕ} ink_of s c.loop-i.i 0 (omega arith) v.1.1.1 c.put_ink-next.ensures)))
+pub loop-x-preserved : goal.loop-x-preserved
+unfolding ink_of
+loop-x-preserved c =
+    let x = get_or c.args.s.now c.loop-x.x-index 0 in
+    let turn : Wrote 1 (ink_of x) c.loop-x.page c.if-not-is_blank.page =
+    elim c.if-not-is_blank.branch [
+      | then-not-is_blank w ↦ rw (w.page-is, sym c.is_blank.ensures ∙ not-true _ (ap not w.if-not-is_blank.true)) w.put.ensures
+      | else-not-is_blank w ↦ rw (w.page-is, sym c.is_blank.ensures ∙ not-false _ (ap not w.if-not-is_blank.false)) (text_as (omega arith) refl (start _))
+    ] in
+    one_more {A = ℕ} ink_of c.args.s.now c.loop-x.x-index 0 (omega arith) c.loop-x.invariant turn
 
 pub returns : goal.returns
-returns c =
-    let s = c.args.s.now in
-    text_as (omega arith) (ap (flat_map ink_of) (take_all c.loop-i.i s (omega arith))) c.loop-i.invariant.1.1.1
+returns c = text_as (omega arith) (ap (flat_map ink_of) (take_all c.loop-x.x-index c.args.s.now (omega arith))) c.loop-x.invariant

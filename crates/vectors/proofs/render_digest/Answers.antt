@@ -1,6 +1,0 @@
-use native.Mathlib.Omega.{arith}
-use Rattle.text.proofs.PenLaws.{rendered}
-use Rattle.vectors.proofs.render_digest.Goals as goal
-
-pub returns : goal.returns
-returns c = rendered (omega arith) c.put_digest.ensures

@@ -1,16 +1,15 @@
 -- What scanning a bag gives, by what its seal says.
 -- Assumes nothing.
 use Prim.Native.Nat.{ℕ}
-use mathlib.Core.Path.{◌≡◌, refl, sym, ap, ◌∙◌}
-use mathlib.Core.Bool.{true, false, false≢true}
+use mathlib.Core.Path.{◌≡◌, refl, sym, ap}
+use mathlib.Core.Bool.{true, false}
 use mathlib.Core.List.{List, []}
 use lib.Ieee.{Float}
 use Rattle.refusals.specs.declared.Answer.{Answer}
-use Rattle.refusals.specs.Rules.{answer, accepted, is_accepted, not_given}
+use Rattle.refusals.specs.Rules.{accepted, is_accepted, not_given}
 use Rattle.refusals.proofs.RuleLaws.{by_test}
 use Rattle.seal.specs.declared.Calibration.{Calibration}
-use Rattle.seal.specs.declared.Gate.{Gate}
-use Rattle.std.specs.Prelude.{Result, Ok, Err}
+use Rattle.std.specs.Prelude.{Ok, Err}
 use Rattle.seal.specs.declared.Reading.{Reading}
 use Rattle.seal.specs.declared.SealRefusal.{SealRefusal}
 use Rattle.seal.specs.declared.SealRefusal.TheVariants.{Broken, BadLimit, NotFinite, Outside}

@@ -2,7 +2,7 @@
 // nullifiers and, after the witness, the pool; and what that part says for itself, between these. Of the ledger this needs its counts alone,
 // so that a refusal never reads the tree's nodes, and a field of the case is read when it is asked about.
 // How the lent rows are walked is left to table.rt and roll.rt.
-ghost use Rattle.std.specs.Prelude.{◌≡◌, true, false, ◌*◌, ◌≤◌, length};
+ghost use Rattle.std.specs.Prelude.{◌≡◌, true, ◌*◌, ◌≤◌, length};
 ghost use Rattle.refusals.specs.Rules.{first, rules_in, lower, refuses_up_to};
 ghost use Rattle.refusals.specs.Reasons.{as_answer};
 ghost use Rattle.units.specs.Pairs.{number_of};

@@ -53,7 +53,7 @@ pub fn open(roll: &mut [u8]) -> Answered
 {
     if room_in(MOST_ANCHORS, roll.len()) == 0 {
         return Answered {
-            answer: Answer::refused(1, 0),
+            answer: Answer::from(Refusal::NoRoll),
             ledger: start(0),
         };
     }

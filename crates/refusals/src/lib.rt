@@ -72,8 +72,8 @@ impl Answer {
     }
 }
 
-// Why a case is refused, in the order of document 01's table. What is asked of a case is answered with
-// Ok, or with the first of these that applies.
+// Why a case is refused, in the order of document 01's table, or the closing of a block (Damaged, NoRoom), or the
+// opening of a ledger (NoRoll). What is asked is answered with Ok, or with the first of these that applies.
 #[derive(Clone, Copy)]
 pub enum Refusal {
     Length,
@@ -94,6 +94,7 @@ pub enum Refusal {
     WrongRho(Which),
     WrongCommitment(Which),
     PoolOutside,
+    NoRoll,
 }
 
 // Its number and place, and of a spent nullifier the row.
@@ -120,6 +121,7 @@ impl From<Refusal> for Answer {
             Refusal::WrongRho(i) => Answer::refused(15, i.number()),
             Refusal::WrongCommitment(i) => Answer::refused(16, i.number()),
             Refusal::PoolOutside => Answer::refused(17, 0),
+            Refusal::NoRoll => Answer::refused(1, 0),
         }
     }
 }

@@ -8,12 +8,11 @@ use Rattle.text.specs.Decimal.{decimal}
 use Rattle.text.specs.Hex.{hex, hex64}
 use Rattle.text.specs.Answers.{answer_words, answer_line}
 use Rattle.refusals.specs.declared.Answer.{Answer}
-use Rattle.refusals.specs.Rules.{accepted, answer, accepted}
+use Rattle.refusals.specs.Rules.{accepted, accepted}
 use Rattle.sha256.specs.Hash.{sha256_of}
 use Rattle.tree.specs.Record.{record_root}
 use Rattle.ledger.specs.declared.Ledger.{Ledger}
 use Rattle.ledger.specs.Ledgers.{room_in}
-use Rattle.seal.specs.declared.Gate.{Gate}
 use Rattle.seal.specs.declared.Reading.{Reading}
 use Rattle.std.specs.Prelude.{Result, Ok, Err}
 use Rattle.seal.specs.declared.SealRefusal.{SealRefusal}

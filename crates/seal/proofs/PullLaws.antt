@@ -12,8 +12,7 @@ use Rattle.refusals.specs.Rules.{answer, accepted, first}
 use Rattle.refusals.proofs.RuleLaws.{by_test}
 use Rattle.seal.specs.declared.Calibration.{Calibration}
 use Rattle.seal.specs.declared.Gate.{Gate}
-use Rattle.std.specs.Prelude.{Result, Ok, Err}
-use Rattle.seal.specs.declared.SealRefusal.{SealRefusal}
+use Rattle.std.specs.Prelude.{Ok, Err}
 use Rattle.seal.specs.declared.SealRefusal.TheVariants.{BadLimit, NotFinite, Outside}
 use Rattle.seal.specs.Pull.{pull_of, bad_limit, not_finite, within, outside, at_gate, judge_of, seal_answer, seal_refusals}
 

@@ -10,7 +10,7 @@ use lib.Dec.{eqb, leb}
 use lib.ListN.{length, get_or}
 use Rattle.octets.proofs.PartLaws.{pasted_length}
 use Rattle.refusals.specs.declared.Answer.{Answer}
-use Rattle.refusals.specs.Rules.{accepted, first, rules_in, numbered}
+use Rattle.refusals.specs.Rules.{first, rules_in, numbered}
 use Rattle.refusals.proofs.RuleLaws.{by_test, one_fails, passed_by}
 use Rattle.refusals.proofs.TwoTables.{all_up_to, up_to_first}
 use Rattle.refusals.proofs.AnswerRows.{without_rows, no_row}

@@ -1,5 +1,5 @@
 -- One return for each refusal of the lengths and the public values, and one for the rest; the table stops or goes on. Where the lengths pass, the local file has the draft's.
-use Prim.Native.Nat.{ℕ, ◌≤◌}
+use Prim.Native.Nat.{ℕ}
 use mathlib.Core.Path.{◌≡◌, refl, sym, ap, ◌∙◌}
 use mathlib.Core.Bool.{true}
 use mathlib.Core.List.{List, [], ◌∷◌}

@@ -1,6 +1,6 @@
 -- The file holds the draft, then the draft with its old notes worked out, which are asked, then the case; the last copy puts that over the whole buffer.
 use Prim.Native.Nat.{ℕ}
-use mathlib.Core.Path.{◌≡◌, refl, sym, ap, ◌∙◌}
+use mathlib.Core.Path.{◌≡◌, sym, ap, ◌∙◌}
 use mathlib.Core.List.{List}
 use lib.ListN.{length}
 use Rattle.octets.specs.Parts.{pasted}

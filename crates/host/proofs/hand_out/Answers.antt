@@ -2,7 +2,6 @@ use mathlib.Core.Path.{sym, ap, ◌∙◌}
 use lib.Ieee.{Float}
 use Rattle.std.specs.Prelude.{Result}
 use Rattle.seal.specs.declared.SealRefusal.{SealRefusal}
-use Rattle.host.specs.Answers.{code_of}
 use Rattle.host.specs.Bags.{handed}
 use Rattle.host.proofs.hand_out.Goals as goal
 

@@ -21,7 +21,7 @@ returns-then-room_in-eq0 c =
     let all = one_holds _ 1 0 (eq-eqb (room_in most_anchors (length r)) 0 h) in
     let no = open_refused r (ap is_accepted (sym all)) in
     record {
-      answer_value = c.refused.ensures ∙ all;
+      answer_value = c.from.ensures ∙ all;
       ledger_value = c.start.ensures ∙ no.0;
       roll_after = no.1;
     }

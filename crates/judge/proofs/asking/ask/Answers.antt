@@ -7,10 +7,10 @@ use lib.ListN.{length}
 use Rattle.refusals.specs.declared.Answer.{Answer}
 use Rattle.refusals.specs.Rules.{Rule, rules_in, first, accepted, numbered}
 use Rattle.refusals.proofs.RuleLaws.{refused_by, passed_by, run_refused_by, run_passed_by, one_fails, last_group}
-use Rattle.casefile.specs.Fields.{has_length, anchor_of, nullifier_of}
+use Rattle.casefile.specs.Fields.{has_length}
 use Rattle.statement.specs.CaseRefusals.{no1, no4, no5, no7}
 use Rattle.ledger.specs.declared.Ledger.{Ledger}
-use Rattle.ledger.specs.Ledgers.{most_nullifiers, most_anchors, no2, no3, no6, no8}
+use Rattle.ledger.specs.Ledgers.{most_nullifiers, most_anchors, no2, no3, no6}
 use Rattle.ledger.proofs.Soundness.{undamaged, within}
 use Rattle.ledgerbytes.specs.LedgerBytes.{bare}
 use Rattle.judge.specs.Judging.{front_refusals}

@@ -151,7 +151,7 @@ fn put_rows(out: &mut [u8], at: usize, word: &[u8], n: usize, bytes: &[u8]) -> u
 {
     let mut next = at;
     for i in 0..n {
-        let row = octets::part32(bytes, i * 32);
+        let row = octets::part(bytes, i * 32);
         next = put_row(out, next, word, &row);
     }
     next

@@ -77,12 +77,9 @@ fn start(rt: &(impl Print + Eprint), name: &[u8], bytes: [u8; 64], most: usize)
 fn blake(rt: &(impl Print + Eprint), name: &[u8], message: &[u8], size: usize)
     requires { length name.now ≤ 64 }
 {
-    let answer = blake2b::hash(message, &[0u8; 16], size);
-    if answer.ok {
-        let bytes = answer.bytes;
-        start(rt, name, bytes, size);
-    } else {
-        refused(rt, name);
+    match blake2b::hash(message, &[0u8; 16], size) {
+        Some(bytes) => start(rt, name, bytes, size),
+        None => refused(rt, name),
     }
 }
 

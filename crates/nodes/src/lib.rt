@@ -66,9 +66,5 @@ pub fn parent(left: &[u8; 32], right: &[u8; 32]) -> [u8; 32]
 pub fn empty_root(level: usize) -> [u8; 32]
     ensures { result ≡ empty_root (min level 29) }
 {
-    let roots = EMPTY_ROOTS;
-    if 29 <= level {
-        return octets::part32(&roots, 928);
-    }
-    octets::part32(&roots, level * 32)
+    octets::part(&EMPTY_ROOTS, level.min(29) * 32)
 }

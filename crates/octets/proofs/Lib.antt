@@ -1,7 +1,9 @@
 pub mod BoolLaws
 pub mod ByteLaws
+pub mod ChunkLaws
 pub mod Filling
 pub mod Joining
 pub mod NumberLaws
 pub mod PartLaws
 pub mod RowLaws
+pub mod WordLaws

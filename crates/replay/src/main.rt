@@ -133,7 +133,7 @@ fn put_rows(page: &mut Page<219136>, word: &[u8], n: usize, bytes: &[u8])
     ensures { Wrote ((length word.now + 65) * n) (row_lines word.now n bytes.now) page.old page.new }
 {
     for i in 0..n {
-        let row = octets::part32(bytes, i * 32);
+        let row = octets::part(bytes, i * 32);
         put_row(page, word, &row);
     }
 }

@@ -1,4 +1,4 @@
--- Copies into an array of zeros, one behind the other: a block from two halves, and the last blocks of a message.
+-- Copies into an array of zeros, one behind the other: the last blocks of a message.
 -- Assumes nothing.
 use mathlib.Core.Path.{◌≡◌, refl, sym, ap, ◌∙◌}
 use mathlib.Core.List.{List, [], ◌∷◌, ◌++◌, append_assoc, append-nil}
@@ -8,11 +8,6 @@ use lib.ListN.{length, set, length-set, length-append}
 use lib.Seq.{set_at}
 use Rattle.octets.specs.Parts.{zeros, pasted}
 use Rattle.octets.proofs.PartLaws.{zeros_length, zeros_append, pasted_over, pasted_length}
-
-pub halves : (l r a b : List ℕ) → length l ≡ 32 → length r ≡ 32 → a ≡ pasted 0 l (zeros 64) → b ≡ pasted 32 r a → b ≡ l ++ r
-halves l r a b hl hr p q =
-    q ∙ ap (pasted 32 r) (p ∙ pasted_over [] (zeros 32) (zeros 32) l 0 refl (sym hl)) ∙ pasted_over l (zeros 32) [] r 32 hl (sym hr)
-    ∙ ap (λ (x : List ℕ). l ++ x) (append-nil r)
 
 -- t is all zeros; a copy of s to its start, a byte x behind it, a copy of e to its end
 pub ending : (s e t a b : List ℕ) (x : ℕ) → length e ≡ 8 → length s + 9 ≤ length t → t ≡ zeros (length t) → a ≡ pasted 0 s t → b ≡ pasted (length t - 8) e (set a (length s) x)

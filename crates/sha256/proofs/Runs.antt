@@ -3,12 +3,12 @@
 use mathlib.Core.Path.{◌≡◌, refl, sym, ap, ap₂, ◌∙◌}
 use mathlib.Core.List.{List, ◌∷◌, ◌++◌, append_assoc}
 use Prim.Native.Nat.{ℕ, zero, suc, ◌+◌, ◌-◌, ◌*◌, ◌/◌, ◌%◌, ◌≤◌, ◌<◌}
-use native.Mathlib.Nat.{add-zero, add-suc, le_of_eq}
+use native.Mathlib.Nat.{add-zero, add-suc}
 use native.Mathlib.Numerals.{add-one}
 use native.Mathlib.Omega.{arith}
-use lib.ListN.{length, take, drop, length-append, length-drop, take-append-drop}
+use lib.ListN.{length, take, drop, length-append, take-append-drop}
 use lib.Seq.{take_all, length-take-le}
-use Rattle.octets.specs.Parts.{zeros}
+use Rattle.octets.specs.Parts.{zeros, field}
 use Rattle.octets.specs.Numbers.{big_bytes}
 use Rattle.octets.proofs.PartLaws.{field_part, field_left, field_right}
 use Rattle.sha256.specs.declared.State.{State}
@@ -29,12 +29,11 @@ after q (suc k) s a b h =
     ap (λ (n : ℕ). blocks n s (a ++ b)) (add-suc q k) ∙ ap₂ compress_from (after q k s a b h) (field_right (64 * (q + k)) (64 * k) 64 a b (omega arith))
 
 -- one block more of a message
-pub onward : (i : ℕ) (s r : State) (m : List ℕ) → 64 * i + 64 ≤ length m → s ≡ blocks i start_of m → r ≡ compress_from s (take (64 * i + 64 - 64 * i) (drop (64 * i) m))
-    → r ≡ blocks (i + 1) start_of m
+pub onward : (i : ℕ) (s r : State) (m : List ℕ) → i * 64 + 64 ≤ length m → s ≡ blocks i start_of m → r ≡ compress_from s (take 64 (drop (i * 64) m)) → r ≡ blocks (i + 1) start_of m
 unfolding blocks block_at
 onward i s r m h p q =
-    let e : 64 * i + 64 - 64 * i ≡ 64 = omega arith in
-    q ∙ ap₂ compress_from p (ap (λ (n : ℕ). take n (drop (64 * i) m)) e ∙ sym (field_part (64 * i) 64 m h)) ∙ ap (λ (n : ℕ). blocks n start_of m) (sym (add-one i))
+    let e : i * 64 ≡ 64 * i = omega arith in
+    q ∙ ap₂ compress_from p (sym (field_part (i * 64) 64 m h) ∙ ap (λ (n : ℕ). field n 64 m) e) ∙ ap (λ (n : ℕ). blocks n start_of m) (sym (add-one i))
 
 -- one block, and two
 pub one : (s r : State) (t : List ℕ) → length t ≡ 64 → r ≡ compress_from s t → r ≡ blocks 1 s t
@@ -57,14 +56,15 @@ closing rest t n k s hr hl hk ht e =
     ap (λ (j : ℕ). blocks j s t) d ∙ ap (λ (x : List ℕ). blocks (length x / 64) s x) all
 
 -- a message's whole blocks, and then its last bytes l with the padding
-pub whole : (m l : List ℕ) (q : ℕ) (s r : State) → q ≡ length m / 64 → l ≡ take (length m - 64 * q) (drop (64 * q) m) → s ≡ blocks q start_of m
+pub whole : (m l : List ℕ) (q : ℕ) (s r : State) → q ≡ length m / 64 → l ≡ drop (q * 64) m → s ≡ blocks q start_of m
     → r ≡ blocks (length (l ++ padding (length m)) / 64) s (l ++ padding (length m)) → state_bytes r ≡ sha256_of m
 unfolding sha256_of padded
 whole m l q s r hq hl hs hr =
     let a = take (64 * q) m in
     let b = l ++ padding (length m) in
     let la : length a ≡ 64 * q = length-take-le (64 * q) m (omega arith) in
-    let rest : l ≡ drop (64 * q) m = hl ∙ take_all (length m - 64 * q) (drop (64 * q) m) (le_of_eq (length-drop (64 * q) m)) in
+    let e : q * 64 ≡ 64 * q = omega arith in
+    let rest : l ≡ drop (64 * q) m = hl ∙ ap (λ (n : ℕ). drop n m) e in
     let split : m ≡ a ++ l = sym (take-append-drop (64 * q) m) ∙ ap (λ (x : List ℕ). a ++ x) (sym rest) in
     let all : m ++ padding (length m) ≡ a ++ b = ap (λ (x : List ℕ). x ++ padding (length m)) split ∙ append_assoc a l (padding (length m)) in
     let n : length (m ++ padding (length m)) / 64 ≡ q + length b / 64 = omega (arith, ap length all, length-append a b) in

@@ -6,9 +6,8 @@
 ghost use Rattle.std.specs.Prelude.{◌≡◌, ◌∷◌, ◌++◌, ◌+◌, ◌-◌, ◌*◌, ◌/◌, ◌%◌, ◌^◌, ◌≤◌, ◌<◌, length, get_or, set};
 ghost use Rattle.octets.specs.Parts.{zeros, listed};
 ghost use Rattle.octets.specs.Numbers.{big_bytes};
-ghost use Rattle.sha256.specs.Compression.{rotr as rotr_of, Ch, Maj, Σ0, Σ1, σ0, σ1, k_list, start_of, word_at, next_word, schedule_of, round_of, rounds as rounds_of, plus_of, compress_from, state_bytes, compress_of};
-ghost use Rattle.sha256.specs.Hash.{padding, blocks, sha256_of};
-ghost use Rattle.sha256.specs.Steps.{rounds_from};
+ghost use Rattle.sha256.specs.Compression.{Ch, Maj, Σ0, Σ1, σ0, σ1, k_list, start_of, word_at, next_word, schedule_of, round_of, rounds as rounds_of, plus_of, compress_from, state_bytes, compress_of};
+ghost use Rattle.sha256.specs.Hash.{padding, blocks as blocks_of, sha256_of};
 
 // The eight words that go from block to block.
 #[derive(Clone, Copy)]
@@ -35,14 +34,6 @@ const K: [u32; 64] = [
     0x748f82ee, 0x78a5636f, 0x84c87814, 0x8cc70208, 0x90befffa, 0xa4506ceb, 0xbef9a3f7, 0xc67178f2,
 ];
 
-// The rotation to the right: one instruction once n is known.
-fn rotr(x: u32, n: u32) -> u32
-    requires { (0 < n) × (n < 32) }
-    ensures { result ≡ rotr_of n x }
-{
-    x >> n | x << (32 - n)
-}
-
 fn ch(x: u32, y: u32, z: u32) -> u32
     ensures { result ≡ Ch x y z }
 {
@@ -58,62 +49,34 @@ fn maj(x: u32, y: u32, z: u32) -> u32
 fn big0(x: u32) -> u32
     ensures { result ≡ Σ0 x }
 {
-    rotr(x, 2) ^ rotr(x, 13) ^ rotr(x, 22)
+    x.rotate_right(2) ^ x.rotate_right(13) ^ x.rotate_right(22)
 }
 
 fn big1(x: u32) -> u32
     ensures { result ≡ Σ1 x }
 {
-    rotr(x, 6) ^ rotr(x, 11) ^ rotr(x, 25)
+    x.rotate_right(6) ^ x.rotate_right(11) ^ x.rotate_right(25)
 }
 
 fn small0(x: u32) -> u32
     ensures { result ≡ σ0 x }
 {
-    rotr(x, 7) ^ rotr(x, 18) ^ (x >> 3)
+    x.rotate_right(7) ^ x.rotate_right(18) ^ (x >> 3)
 }
 
 fn small1(x: u32) -> u32
     ensures { result ≡ σ1 x }
 {
-    rotr(x, 17) ^ rotr(x, 19) ^ (x >> 10)
-}
-
-// Sums of words, which drop what 32 bits cannot hold. Each becomes plain additions.
-fn add2(a: u32, b: u32) -> u32
-    ensures { result ≡ (a + b) % 2 ^ 32 }
-{
-    ((a as u64 + b as u64) % 4294967296) as u32
-}
-
-fn add4(a: u32, b: u32, c: u32, d: u32) -> u32
-    ensures { result ≡ (a + b + c + d) % 2 ^ 32 }
-{
-    ((a as u64 + b as u64 + c as u64 + d as u64) % 4294967296) as u32
-}
-
-fn add5(a: u32, b: u32, c: u32, d: u32, e: u32) -> u32
-    ensures { result ≡ (a + b + c + d + e) % 2 ^ 32 }
-{
-    ((a as u64 + b as u64 + c as u64 + d as u64 + e as u64) % 4294967296) as u32
-}
-
-// Word i of a block.
-fn word(b: &[u8], i: usize) -> u32
-    requires { (i < 16) × (length b.now ≡ 64) }
-    ensures { result ≡ word_at b.now i }
-{
-    octets::be32_of(b[4 * i], b[4 * i + 1], b[4 * i + 2], b[4 * i + 3])
+    x.rotate_right(17) ^ x.rotate_right(19) ^ (x >> 10)
 }
 
 // A block's words, with room for the rest of the schedule.
-fn words(b: &[u8]) -> [u32; 64]
-    requires { length b.now ≡ 64 }
+fn words(b: &[u8; 64]) -> [u32; 64]
     ensures { result ≡ listed (word_at b.now) 16 ++ zeros 48 }
 {
-    let mut w = [0u32; 64];
-    for i in 0..16 {
-        w[i] = word(b, i);
+    let mut w = [0; 64];
+    for (i, bytes) in b.as_chunks::<4>().0.iter().enumerate() {
+        w[i] = u32::from_be_bytes(*bytes);
     }
     w
 }
@@ -123,12 +86,14 @@ fn extend(w: &mut [u32; 64], i: usize)
     requires { i < 48 }
     ensures { w.new ≡ set w.old (i + 16) (next_word w.old i) }
 {
-    w[i + 16] = add4(small1(w[i + 14]), w[i + 9], small0(w[i + 1]), w[i]);
+    w[i + 16] = small1(w[i + 14])
+        .wrapping_add(w[i + 9])
+        .wrapping_add(small0(w[i + 1]))
+        .wrapping_add(w[i]);
 }
 
-// The schedule. Four words a turn, which spares three of four jumps.
-fn schedule(b: &[u8]) -> [u32; 64]
-    requires { length b.now ≡ 64 }
+// The schedule. Four words a turn, which spares three of four jumps: with one a turn a block takes 96 instructions more.
+fn schedule(b: &[u8; 64]) -> [u32; 64]
     ensures { result ≡ schedule_of b.now }
 {
     let mut w = words(b);
@@ -145,53 +110,49 @@ fn schedule(b: &[u8]) -> [u32; 64]
 fn round(s: State, k: u32, w: u32) -> State
     ensures { result ≡ round_of s k w }
 {
-    let t1 = add5(s.h, big1(s.e), ch(s.e, s.f, s.g), k, w);
-    let t2 = add2(big0(s.a), maj(s.a, s.b, s.c));
+    let t1 = s
+        .h
+        .wrapping_add(big1(s.e))
+        .wrapping_add(ch(s.e, s.f, s.g))
+        .wrapping_add(k)
+        .wrapping_add(w);
+    let t2 = big0(s.a).wrapping_add(maj(s.a, s.b, s.c));
     State {
-        a: add2(t1, t2),
+        a: t1.wrapping_add(t2),
         b: s.a,
         c: s.b,
         d: s.c,
-        e: add2(s.d, t1),
+        e: s.d.wrapping_add(t1),
         f: s.e,
         g: s.f,
         h: s.g,
     }
 }
 
-// Round i, with its constant of k and its word of w.
-fn step(s: State, k: &[u32; 64], w: &[u32; 64], i: usize) -> State
-    requires { i < 64 }
-    ensures { result ≡ round_of s (get_or k.now i 0) (get_or w.now i 0) }
-{
-    round(s, k[i], w[i])
-}
-
 // Eight rounds in a row: after so many each word is back in the register where it began, so that
 // none is moved. One call site only, so that the compiler inlines it.
-fn eight(s: State, k: &[u32; 64], w: &[u32; 64], i: usize) -> State
-    requires { i < 57 }
-    ensures { result ≡ rounds_from i 8 k.now w.now s }
+fn eight(s: State, k: &[u32; 8], w: &[u32; 8]) -> State
+    ensures { result ≡ rounds_of 8 k.now w.now s }
 {
-    let s1 = step(s, k, w, i);
-    let s2 = step(s1, k, w, i + 1);
-    let s3 = step(s2, k, w, i + 2);
-    let s4 = step(s3, k, w, i + 3);
-    let s5 = step(s4, k, w, i + 4);
-    let s6 = step(s5, k, w, i + 5);
-    let s7 = step(s6, k, w, i + 6);
-    step(s7, k, w, i + 7)
+    let s1 = round(s, k[0], w[0]);
+    let s2 = round(s1, k[1], w[1]);
+    let s3 = round(s2, k[2], w[2]);
+    let s4 = round(s3, k[3], w[3]);
+    let s5 = round(s4, k[4], w[4]);
+    let s6 = round(s5, k[5], w[5]);
+    let s7 = round(s6, k[6], w[6]);
+    round(s7, k[7], w[7])
 }
 
-// All 64 rounds.
+// All 64 rounds, eight a turn: with one a turn a block takes 840 instructions more.
 fn rounds(s: State, w: &[u32; 64]) -> State
     ensures { result ≡ rounds_of 64 k_list w.now s }
 {
-    // One copy of the table for all rounds: K[i] in the loop would make one at every turn.
-    let k = K;
+    let (constants, _) = K.as_chunks::<8>();
+    let (words, _) = w.as_chunks::<8>();
     let mut t = s;
-    for i in 0..8 {
-        t = eight(t, &k, w, 8 * i);
+    for (k, w) in constants.iter().zip(words) {
+        t = eight(t, k, w);
     }
     t
 }
@@ -217,20 +178,19 @@ fn plus(s: State, t: State) -> State
     ensures { result ≡ plus_of s t }
 {
     State {
-        a: add2(s.a, t.a),
-        b: add2(s.b, t.b),
-        c: add2(s.c, t.c),
-        d: add2(s.d, t.d),
-        e: add2(s.e, t.e),
-        f: add2(s.f, t.f),
-        g: add2(s.g, t.g),
-        h: add2(s.h, t.h),
+        a: s.a.wrapping_add(t.a),
+        b: s.b.wrapping_add(t.b),
+        c: s.c.wrapping_add(t.c),
+        d: s.d.wrapping_add(t.d),
+        e: s.e.wrapping_add(t.e),
+        f: s.f.wrapping_add(t.f),
+        g: s.g.wrapping_add(t.g),
+        h: s.h.wrapping_add(t.h),
     }
 }
 
 // What a block of 64 bytes makes of a state.
-fn absorb(s: State, b: &[u8]) -> State
-    requires { length b.now ≡ 64 }
+fn absorb(s: State, b: &[u8; 64]) -> State
     ensures { result ≡ compress_from s b.now }
 {
     let w = schedule(b);
@@ -241,40 +201,17 @@ fn absorb(s: State, b: &[u8]) -> State
 fn bytes(s: State) -> [u8; 32]
     ensures { result ≡ state_bytes s }
 {
-    [
-        (s.a / 16777216 % 256) as u8,
-        (s.a / 65536 % 256) as u8,
-        (s.a / 256 % 256) as u8,
-        (s.a % 256) as u8,
-        (s.b / 16777216 % 256) as u8,
-        (s.b / 65536 % 256) as u8,
-        (s.b / 256 % 256) as u8,
-        (s.b % 256) as u8,
-        (s.c / 16777216 % 256) as u8,
-        (s.c / 65536 % 256) as u8,
-        (s.c / 256 % 256) as u8,
-        (s.c % 256) as u8,
-        (s.d / 16777216 % 256) as u8,
-        (s.d / 65536 % 256) as u8,
-        (s.d / 256 % 256) as u8,
-        (s.d % 256) as u8,
-        (s.e / 16777216 % 256) as u8,
-        (s.e / 65536 % 256) as u8,
-        (s.e / 256 % 256) as u8,
-        (s.e % 256) as u8,
-        (s.f / 16777216 % 256) as u8,
-        (s.f / 65536 % 256) as u8,
-        (s.f / 256 % 256) as u8,
-        (s.f % 256) as u8,
-        (s.g / 16777216 % 256) as u8,
-        (s.g / 65536 % 256) as u8,
-        (s.g / 256 % 256) as u8,
-        (s.g % 256) as u8,
-        (s.h / 16777216 % 256) as u8,
-        (s.h / 65536 % 256) as u8,
-        (s.h / 256 % 256) as u8,
-        (s.h % 256) as u8,
-    ]
+    let words = [
+        s.a.to_be_bytes(),
+        s.b.to_be_bytes(),
+        s.c.to_be_bytes(),
+        s.d.to_be_bytes(),
+        s.e.to_be_bytes(),
+        s.f.to_be_bytes(),
+        s.g.to_be_bytes(),
+        s.h.to_be_bytes(),
+    ];
+    octets::part(words.as_flattened(), 0)
 }
 
 // One compression of a block, from the start value, with no padding.
@@ -284,29 +221,19 @@ pub fn compress(b: &[u8; 64]) -> [u8; 32]
     bytes(absorb(start(), b))
 }
 
-// A block from its two halves.
-fn joined(l: &[u8; 32], r: &[u8; 32]) -> [u8; 64]
-    ensures { result ≡ l.now ++ r.now }
-{
-    let mut b = [0u8; 64];
-    octets::copy_in(&mut b, 0, l);
-    octets::copy_in(&mut b, 32, r);
-    b
-}
-
 // One compression of a block that is given as its two halves.
 pub fn compress_halves(l: &[u8; 32], r: &[u8; 32]) -> [u8; 32]
     ensures { result ≡ compress_of (l.now ++ r.now) }
 {
-    let b = joined(l, r);
-    compress(&b)
+    let block = octets::part([*l, *r].as_flattened(), 0);
+    compress(&block)
 }
 
 // The length in bits of n bytes. Eight bytes keep 64 bits of it, and so n counts modulo 2 ^ 61.
 fn length_field(n: usize) -> [u8; 8]
     ensures { result ≡ big_bytes 8 (8 * n) }
 {
-    octets::be_bytes64(8 * (n as u64 % 2305843009213693952))
+    (n as u64).wrapping_mul(8).to_be_bytes()
 }
 
 // Fills t, all zeros so far, with the message's last bytes and the padding for n bytes in all.
@@ -324,7 +251,7 @@ fn fill_last(t: &mut [u8], rest: &[u8], n: usize)
 // length does not fit behind the last bytes.
 fn finish(s: State, rest: &[u8], n: usize) -> State
     requires { length rest.now ≡ n % 64 }
-    ensures { result ≡ blocks (length (rest.now ++ padding n) / 64) s (rest.now ++ padding n) }
+    ensures { result ≡ blocks_of (length (rest.now ++ padding n) / 64) s (rest.now ++ padding n) }
 {
     if rest.len() < 56 {
         let mut t = [0u8; 64];
@@ -333,8 +260,9 @@ fn finish(s: State, rest: &[u8], n: usize) -> State
     } else {
         let mut t = [0u8; 128];
         fill_last(&mut t, rest, n);
-        let u = absorb(s, &t[0..64]);
-        absorb(u, &t[64..])
+        let (blocks, _) = t.as_chunks::<64>();
+        let u = absorb(s, &blocks[0]);
+        absorb(u, &blocks[1])
     }
 }
 
@@ -342,14 +270,10 @@ fn finish(s: State, rest: &[u8], n: usize) -> State
 pub fn hash(m: &[u8]) -> [u8; 32]
     ensures { result ≡ sha256_of m.now }
 {
-    let n = m.len();
-    let q = n / 64;
+    let (blocks, rest) = m.as_chunks::<64>();
     let mut s = start();
-    for i in 0..q {
-        let from = 64 * i;
-        let to = from + 64;
-        s = absorb(s, &m[from..to]);
+    for block in blocks {
+        s = absorb(s, block);
     }
-    let last = 64 * q;
-    bytes(finish(s, &m[last..], n))
+    bytes(finish(s, rest, m.len()))
 }

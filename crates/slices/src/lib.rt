@@ -71,7 +71,7 @@ fn node_at(i: Which) -> usize
 fn node_in(judgement: &[u8], i: Which) -> [u8; 32]
     ensures { result ≡ node_in (number_of i) judgement.now }
 {
-    octets::part32(judgement, node_at(i))
+    octets::part(judgement, node_at(i))
 }
 
 // The answer that was found. A number that no case is answered with reads as 1.
@@ -120,7 +120,7 @@ fn parent_on(case: &[u8], i: Which, level: usize, node: &[u8; 32]) -> [u8; 32]
     ensures { result ≡ parent_on level (number_of i) case.now node.now }
 {
     let position = ancestor(casefile::old_position(case, i), level);
-    let sibling = octets::part32(casefile::old_path(case, i), level * 32);
+    let sibling = octets::part(casefile::old_path(case, i), level * 32);
     tree::step_up(position, node, &sibling)
 }
 

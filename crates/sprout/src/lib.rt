@@ -38,8 +38,7 @@ pub fn has_top_bits(key: &[u8; 32]) -> bool
 pub fn address(key: &[u8; 32]) -> [u8; 32]
     ensures { result ≡ address_from key.now }
 {
-    let rest = [0u8; 32];
-    prefixed(12, key, &rest)
+    prefixed(12, key, &[0; 32])
 }
 
 pub fn nullifier(key: &[u8; 32], rho: &[u8; 32]) -> [u8; 32]
@@ -87,9 +86,8 @@ fn note_bytes(address: &[u8; 32], value: Amount, rho: &[u8; 32], r: &[u8; 32]) -
 {
     let mut m = [0u8; 105];
     m[0] = 0xb0;
-    let v = octets::le_bytes64(value.zatoshi());
     octets::copy_in(&mut m, 1, address);
-    octets::copy_in(&mut m, 33, &v);
+    octets::copy_in(&mut m, 33, &octets::le_bytes64(value.zatoshi()));
     octets::copy_in(&mut m, 41, rho);
     octets::copy_in(&mut m, 73, r);
     m
@@ -111,12 +109,7 @@ fn bound_bytes(
 ) -> [u8; 128]
     ensures { result ≡ bound_bytes seed.now nullifier1.now nullifier2.now key.now }
 {
-    let mut m = [0u8; 128];
-    octets::copy_in(&mut m, 0, seed);
-    octets::copy_in(&mut m, 32, nullifier1);
-    octets::copy_in(&mut m, 64, nullifier2);
-    octets::copy_in(&mut m, 96, key);
-    m
+    octets::part([*seed, *nullifier1, *nullifier2, *key].as_flattened(), 0)
 }
 
 pub fn h_sig(
@@ -128,6 +121,5 @@ pub fn h_sig(
     ensures { result ≡ h_sig_from seed.now nullifier1.now nullifier2.now key.now }
 {
     let m = bound_bytes(seed, nullifier1, nullifier2, key);
-    let p = *b"ZcashComputehSig";
-    blake2b::hash32(&m, &p)
+    blake2b::hash32(&m, b"ZcashComputehSig")
 }

@@ -32,7 +32,7 @@ fn join(nodes: &[u8], level: usize, count: u32, x: &[u8; 32]) -> [u8; 32]
         let e = nodes::empty_root(level);
         nodes::parent(x, &e)
     } else {
-        let waiting = octets::part32(nodes, level * 32);
+        let waiting = octets::part(nodes, level * 32);
         nodes::parent(&waiting, x)
     }
 }
@@ -44,14 +44,16 @@ fn carried(nodes: [u8; 960], count: u32, leaf: [u8; 32]) -> [u8; 960]
     let mut t = nodes;
     let mut x = leaf;
     let mut n = count;
-    let mut k: usize = 0;
-    while k < 29 && n % 2 == 1 {
-        let waiting = octets::part32(&t, k * 32);
+    for k in 0..29 {
+        if n % 2 == 0 {
+            octets::copy_in(&mut t, k * 32, &x);
+            return t;
+        }
+        let waiting = octets::part(&t, k * 32);
         x = nodes::parent(&waiting, &x);
         n = n / 2;
-        k = k + 1;
     }
-    octets::copy_in(&mut t, k * 32, &x);
+    octets::copy_in(&mut t, 928, &x);
     t
 }
 
@@ -71,9 +73,7 @@ impl Tree {
         if self.leaves >= TREE_LEAVES {
             return self;
         }
-        let old = self.nodes;
-        let new = carried(old, self.leaves, leaf);
-        self.nodes = new;
+        self.nodes = carried(self.nodes, self.leaves, leaf);
         self.leaves = self.leaves + 1;
         self
     }
@@ -88,7 +88,7 @@ impl Tree {
             x = join(&t, k, n, &x);
             n = n / 2;
         }
-        if n == 0 { x } else { octets::part32(&t, 928) }
+        if n == 0 { x } else { octets::part(&t, 928) }
     }
 }
 
@@ -110,7 +110,7 @@ pub fn climb(leaf: [u8; 32], position: Position, path: &[u8]) -> [u8; 32]
     let mut x = leaf;
     let mut p = position;
     for k in 0..29 {
-        let sibling = octets::part32(path, k * 32);
+        let sibling = octets::part(path, k * 32);
         x = step_up(p, &x, &sibling);
         p = p.parent();
     }
@@ -120,37 +120,14 @@ pub fn climb(leaf: [u8; 32], position: Position, path: &[u8]) -> [u8; 32]
 // How many bytes a record has: its count, then its nodes.
 pub const RECORD_LENGTH: usize = 964;
 
-// A record that the bytes have whole; its nodes in one copy.
-fn record_whole(bytes: &[u8], at: usize) -> Tree
-    requires { at + 964 ≤ length bytes.now }
-    ensures { result ≡ record_at at bytes.now }
-{
-    let leaves = octets::le32_of(bytes[at], bytes[at + 1], bytes[at + 2], bytes[at + 3]);
-    let mut nodes = [0u8; 960];
-    octets::copy_in(&mut nodes, 0, &bytes[at + 4..at + RECORD_LENGTH]);
-    Tree { leaves, nodes }
-}
-
-// A record of which the bytes may lack some: zeros stand for them.
-fn record_padded(bytes: &[u8], at: usize) -> Tree
-    ensures { result ≡ record_at at bytes.now }
-{
-    let mut part = [0u8; RECORD_LENGTH];
-    octets::fill(&mut part, bytes, at);
-    record_whole(&part, 0)
-}
-
 // The record at an index, whether it can be or not. Bytes that are not there read as zeros.
 pub fn read_record(bytes: &[u8], at: usize) -> Tree
     ensures { result ≡ record_at at bytes.now }
 {
-    if bytes.len() < RECORD_LENGTH {
-        return record_padded(bytes, at);
+    Tree {
+        leaves: octets::le32(bytes, at),
+        nodes: octets::part(bytes, at.saturating_add(4)),
     }
-    if bytes.len() - RECORD_LENGTH < at {
-        return record_padded(bytes, at);
-    }
-    record_whole(bytes, at)
 }
 
 // Writes a record from an index on, and answers whether it fitted. Where it does not, the bytes stay.
@@ -158,15 +135,10 @@ pub fn write_record(bytes: &mut [u8], at: usize, tree: Tree) -> bool
     ensures value { result ≡ fits_in at (record_bytes tree) bytes.old }
     ensures bytes_after { bytes.new ≡ pasted at (record_bytes tree) bytes.old }
 {
-    if bytes.len() < RECORD_LENGTH {
+    if bytes.len() < RECORD_LENGTH || bytes.len() - RECORD_LENGTH < at {
         return false;
     }
-    if bytes.len() - RECORD_LENGTH < at {
-        return false;
-    }
-    let leaves = octets::le_bytes32(tree.leaves);
-    let nodes = tree.nodes;
-    octets::copy_in(bytes, at, &leaves);
-    octets::copy_in(bytes, at + 4, &nodes);
+    octets::copy_in(bytes, at, &tree.leaves.to_le_bytes());
+    octets::copy_in(bytes, at + 4, &tree.nodes);
     true
 }

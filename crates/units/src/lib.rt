@@ -139,10 +139,6 @@ impl Row {
     pub fn next(self) -> Row
         ensures { result.0 ≡ min (self.0 + 1) (2 ^ 64 - 1) }
     {
-        if self.0 < 18446744073709551615 {
-            Row(self.0 + 1)
-        } else {
-            self
-        }
+        Row(self.0.saturating_add(1))
     }
 }

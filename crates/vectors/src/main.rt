@@ -57,12 +57,12 @@ fn sha(rt: &(impl Print + Eprint), name: &[u8], message: &[u8])
 fn blake(rt: &(impl Print + Eprint), name: &[u8], message: &[u8], size: usize)
     requires { length name.now ≤ 64 }
 {
-    let answer = blake2b::hash(message, &[0u8; 16], size);
-    if answer.ok {
-        let n = size.min(64);
-        digest(rt, name, &answer.bytes[..n]);
-    } else {
-        refused(rt, name);
+    match blake2b::hash(message, &[0u8; 16], size) {
+        Some(bytes) => {
+            let n = size.min(64);
+            digest(rt, name, &bytes[..n]);
+        }
+        None => refused(rt, name),
     }
 }
 

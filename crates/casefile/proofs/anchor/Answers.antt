@@ -4,4 +4,4 @@ use Rattle.casefile.proofs.anchor.Goals as goal
 
 pub returns : goal.returns
 unfolding anchor_of description old_note_lengths new_note_lengths lengths total offset proof_length part_of
-returns c = c.part32.ensures
+returns c = c.part.ensures

@@ -8,4 +8,4 @@ pub returns : goal.returns
 unfolding commitment_of description old_note_lengths new_note_lengths lengths total offset proof_length part_of
 returns c =
     let a = c.args in
-    c.part32.ensures ∙ paired (λ i. commitment_of i a.case.now) 112 32 32 a.case.now refl refl a.i _ c.commitment_at.ensures
+    c.part.ensures ∙ paired (λ i. commitment_of i a.case.now) 112 32 32 a.case.now refl refl a.i _ c.commitment_at.ensures

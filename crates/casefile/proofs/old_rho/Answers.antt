@@ -8,4 +8,4 @@ pub returns : goal.returns
 unfolding old_rho_of description old_note_lengths new_note_lengths lengths total offset
 returns c =
     let a = c.args in
-    c.part32.ensures ∙ read_behind _ _ 32 a.case.now (behind_pair (λ j. of_old j 3) 1610 1068 32 (refl, refl, refl) (refl, refl, refl) a.i) _ c.old_at.ensures
+    c.part.ensures ∙ read_behind _ _ 32 a.case.now (behind_pair (λ j. of_old j 3) 1610 1068 32 (refl, refl, refl) (refl, refl, refl) a.i) _ c.old_at.ensures

@@ -6,4 +6,4 @@ use Rattle.casefile.proofs.phi.Goals as goal
 
 pub returns : goal.returns
 unfolding phi_of description old_note_lengths new_note_lengths lengths total offset
-returns c = c.part32.ensures ∙ read_behind phi 3882 32 c.args.case.now (refl, refl, refl) _ c.behind_proof.ensures
+returns c = c.part.ensures ∙ read_behind phi 3882 32 c.args.case.now (refl, refl, refl) _ c.behind_proof.ensures

@@ -25,11 +25,11 @@ returns c =
     let a = c.args in
     let b = a.bytes.now in
     let e : length b ≡ 988 = omega arith in
-    let hf : length c.head-front.result ≡ 24 = search rules in
+    let hf : length c.head.result ≡ 24 = search rules in
     let nodes_long : length a.ledger.tree.nodes ≡ 960 = search rules in
     let hr : length (record_bytes a.ledger.tree) ≡ 964 = record_long a.ledger.tree nodes_long in
-    let l1 = next c.head-front.result _ 24 964 (omega arith) (omega arith) c.copy_in.ensures.dst_after (start b 988 e) in
+    let l1 = next c.head.result _ 24 964 (omega arith) (omega arith) c.copy_in.ensures.dst_after (start b 988 e) in
     record {
       value = sym (eq-eqb (length b) 988 e);
-      bytes_after = done (next (record_bytes a.ledger.tree) _ 988 0 (omega arith) (omega arith) c.write_record.ensures.bytes_after l1) ∙ rw (eq-eqb (length b) 988 e, c.head-front.ensures);
+      bytes_after = done (next (record_bytes a.ledger.tree) _ 988 0 (omega arith) (omega arith) c.write_record.ensures.bytes_after l1) ∙ rw (eq-eqb (length b) 988 e, c.head.ensures);
     }

@@ -1,7 +1,7 @@
 use Rattle.octets.specs.Numbers.{big}
-use borrow.Author.Rules.{rules}
+use native.Mathlib.Omega.{arith}
 use Rattle.octets.proofs.be64_of.Goals as goal
 
 pub returns : goal.returns
 unfolding big
-returns c = search rules
+returns c = omega arith

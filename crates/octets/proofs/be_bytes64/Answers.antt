@@ -1,7 +1,7 @@
-use native.Mathlib.Nat.{div-one}
-use Rattle.octets.specs.Numbers.{big_bytes}
+use mathlib.Core.Path.{◌∙◌}
+use Rattle.std.specs.Int.{w64}
+use Rattle.octets.proofs.WordLaws.{big_to}
 use Rattle.octets.proofs.be_bytes64.Goals as goal
 
 pub returns : goal.returns
-unfolding big_bytes
-returns c = simp div-one
+returns c = c.to_be_bytes.ensures ∙ big_to w64 c.args.x

@@ -1,8 +1,10 @@
-use Rattle.octets.specs.Parts.{listed, field}
-use Rattle.octets.specs.Numbers.{little}
-use borrow.Author.Rules.{rules}
+use mathlib.Core.Path.{◌∙◌, ap}
+use Rattle.std.specs.Int.{w32, from_le_bytes}
+use Rattle.octets.proofs.PartLaws.{field_length}
+use Rattle.octets.proofs.WordLaws.{little_from}
 use Rattle.octets.proofs.le32.Goals as goal
 
 pub returns : goal.returns
-unfolding little field listed
-returns c = search rules
+returns c =
+    let a = c.args in
+    c.from_le_bytes.ensures ∙ ap (from_le_bytes w32) c.part.ensures ∙ little_from w32 _ (field_length a.at 4 a.s.now)

@@ -1,7 +1,7 @@
-use mathlib.Core.Path.{refl}
-use Rattle.octets.specs.Numbers.{little_bytes}
+use mathlib.Core.Path.{◌∙◌}
+use Rattle.std.specs.Int.{w16}
+use Rattle.octets.proofs.WordLaws.{little_to}
 use Rattle.octets.proofs.le_bytes16.Goals as goal
 
 pub returns : goal.returns
-unfolding little_bytes
-returns c = refl
+returns c = c.to_le_bytes.ensures ∙ little_to w16 c.args.x

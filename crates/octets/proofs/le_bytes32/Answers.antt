@@ -1,7 +1,7 @@
-use native.Mathlib.Nat.{div-div-eq-div-mul}
-use Rattle.octets.specs.Numbers.{little_bytes}
+use mathlib.Core.Path.{◌∙◌}
+use Rattle.std.specs.Int.{w32}
+use Rattle.octets.proofs.WordLaws.{little_to}
 use Rattle.octets.proofs.le_bytes32.Goals as goal
 
 pub returns : goal.returns
-unfolding little_bytes
-returns c = simp div-div-eq-div-mul
+returns c = c.to_le_bytes.ensures ∙ little_to w32 c.args.x

@@ -18,7 +18,7 @@ loop-i-preserved c =
     let word = c.args.word.now in
     let bytes = c.args.bytes.now in
     let h : i < length (rows_of n bytes) = omega (arith, rows_length n bytes) in
-    let e : row_line word c.part32-row.result ≡ row_line word (get_or (rows_of n bytes) i []) = ap (row_line word) (c.part32-row.ensures ∙ sym (rows_field n i bytes (omega arith) c.requires)) in
+    let e : row_line word c.part-row.result ≡ row_line word (get_or (rows_of n bytes) i []) = ap (row_line word) (c.part-row.ensures ∙ sym (rows_field n i bytes (omega arith) c.requires)) in
     one_more (row_line word) (rows_of n bytes) i [] h c.loop-i.invariant (text_as (omega arith) e c.put_row.ensures)
 
 pub returns : goal.returns

@@ -1,6 +1,6 @@
-use Rattle.sha256.specs.Compression.{Σ1}
+use Rattle.sha256.specs.Compression.{rotr, Σ1}
 use Rattle.sha256.proofs.big1.Goals as goal
 
 pub returns : goal.returns
-unfolding Σ1
+unfolding Σ1 rotr
 returns c = cc

@@ -6,4 +6,4 @@ use Rattle.slices.proofs.node_in.Goals as goal
 
 pub returns : goal.returns
 unfolding node_in
-returns c = c.part32.ensures ∙ ap (λ (n : ℕ). field n 32 c.args.judgement.now) c.node_at.ensures
+returns c = c.part.ensures ∙ ap (λ (n : ℕ). field n 32 c.args.judgement.now) c.node_at.ensures

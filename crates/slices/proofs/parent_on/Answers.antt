@@ -9,5 +9,5 @@ unfolding parent_on
 returns c =
     let a = c.args in
     c.step_up.ensures
-    ∙ rw (c.ancestor-position.ensures, c.old_position.ensures, c.part32-sibling.ensures, c.old_path.ensures)
+    ∙ rw (c.ancestor-position.ensures, c.old_position.ensures, c.part-sibling.ensures, c.old_path.ensures)
     (ap (step_of _ a.node.now) (sibling a.i a.case.now a.level c.requires))

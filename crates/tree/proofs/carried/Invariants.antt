@@ -10,7 +10,7 @@ use Rattle.tree.proofs.carried.Given as goal
 
 abbrev pub invariant-loop-k : goal.invariant-loop-k
 invariant-loop-k l = (l.k ≤ 29) × ((length l.t ≡ 960) × ((length l.x ≡ 32)
-    × (push parent_of 29 l.count (rows_of 30 l.t) l.initial.x ≡ take l.k (rows_of 30 l.t) ++ push parent_of (29 - l.k) l.n (drop l.k (rows_of 30 l.t)) l.x)))
+    × (push parent_of 29 l.count (rows_of 30 l.initial.t) l.initial.x ≡ take l.k (rows_of 30 l.t) ++ push parent_of (29 - l.k) l.n (drop l.k (rows_of 30 l.t)) l.x)))
 
 abbrev pub decreases-loop-k : goal.decreases-loop-k
 decreases-loop-k l = 29 - l.k

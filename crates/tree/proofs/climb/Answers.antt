@@ -12,7 +12,7 @@ loop-k-init c = (search rules, refl)
 pub loop-k-preserved : goal.loop-k-preserved
 loop-k-preserved c =
     let a = c.args in
-    let t = c.step_up-x.ensures ∙ ap (step_of c.loop-k.p.0 c.loop-k.x) c.part32-sibling.ensures in
+    let t = c.step_up-x.ensures ∙ ap (step_of c.loop-k.p.0 c.loop-k.x) c.part-sibling.ensures in
     (search rules, c.loop-k.invariant.1 ∙ climb_turn a.path.now c.loop-k.x c.step_up-x.result c.loop-k.k c.loop-k.p.0 (omega arith) t ∙ rw c.parent-p.ensures)
 
 pub returns : goal.returns

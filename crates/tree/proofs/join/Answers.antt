@@ -19,4 +19,4 @@ unfolding join_of
 returns-else-count-eq0 c =
     let a = c.args in
     let odd : a.count % 2 ≡ 1 = omega arith in
-    rw odd (c.parent-else-count-eq0.ensures ∙ ap (λ (r : List ℕ). parent_of r a.x.now) c.part32-waiting.ensures)
+    rw odd (c.parent-else-count-eq0.ensures ∙ ap (λ (r : List ℕ). parent_of r a.x.now) c.part-waiting.ensures)

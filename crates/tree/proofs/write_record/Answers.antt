@@ -8,6 +8,8 @@ use borrow.Author.Tests.{le-leb, lt-leb}
 use lib.ListN.{length}
 use Rattle.octets.specs.Parts.{fits_in, pasted}
 use Rattle.octets.specs.Numbers.{little_bytes}
+use Rattle.std.specs.Int.{w32}
+use Rattle.octets.proofs.WordLaws.{little_to}
 use Rattle.octets.proofs.NumberLaws.{little_bytes_length}
 use Rattle.octets.proofs.PartLaws.{pasted_not}
 use Rattle.tree.specs.declared.Tree.{Tree}
@@ -15,6 +17,7 @@ use Rattle.tree.specs.RecordBytes.{record_bytes}
 use Rattle.tree.proofs.RecordLaws.{record_long, two_copies}
 use borrow.Author.Rules.{rules}
 use Rattle.tree.proofs.write_record.Goals as goal
+use Rattle.tree.proofs.write_record.Goals.{then-bytes-lt-RECORD_LENGTH-via-then-bytes-lt-RECORD_LENGTH, then-bytes-lt-RECORD_LENGTH-via-else-bytes-lt-RECORD_LENGTH+then-bytes-at}
 
 module _ (at : ℕ) (t : Tree) (b : List ℕ) (long : length t.nodes ≡ 960) where
   refused : length b < at + 964 → (false ≡ fits_in at (record_bytes t) b) × (b ≡ pasted at (record_bytes t) b)
@@ -35,16 +38,12 @@ module _ (at : ℕ) (t : Tree) (b : List ℕ) (long : length t.nodes ≡ 960) wh
 pub returns-then-bytes-lt-RECORD_LENGTH : goal.returns-then-bytes-lt-RECORD_LENGTH
 returns-then-bytes-lt-RECORD_LENGTH c =
     let long : length c.args.tree.nodes ≡ 960 = search rules in
-    let both = refused c.args.at c.args.tree c.args.bytes.now long (omega arith) in
-    record {
-      value = both.0;
-      bytes_after = both.1;
-    }
-
-pub returns-then-bytes-at : goal.returns-then-bytes-at
-returns-then-bytes-at c =
-    let long : length c.args.tree.nodes ≡ 960 = search rules in
-    let both = refused c.args.at c.args.tree c.args.bytes.now long (omega arith) in
+    let short : length c.args.bytes.now < c.args.at + 964 =
+    elim c.then-bytes-lt-RECORD_LENGTH.branch [
+      | then-bytes-lt-RECORD_LENGTH-via-then-bytes-lt-RECORD_LENGTH w ↦ omega arith
+      | then-bytes-lt-RECORD_LENGTH-via-else-bytes-lt-RECORD_LENGTH+then-bytes-at w ↦ omega arith
+    ] in
+    let both = refused c.args.at c.args.tree c.args.bytes.now long short in
     record {
       value = both.0;
       bytes_after = both.1;
@@ -53,7 +52,8 @@ returns-then-bytes-at c =
 pub returns : goal.returns
 returns c =
     let long : length c.args.tree.nodes ≡ 960 = search rules in
-    let both = written c.args.at c.args.tree c.args.bytes.now long c.le_bytes32-leaves.result _ _ (omega arith) c.le_bytes32-leaves.ensures c.copy_in.ensures.dst_after c.copy_in-2.ensures.dst_after in
+    let leaves = c.to_le_bytes.ensures ∙ little_to w32 c.args.tree.leaves in
+    let both = written c.args.at c.args.tree c.args.bytes.now long c.to_le_bytes.result _ _ (omega arith) leaves c.copy_in.ensures.dst_after c.copy_in-2.ensures.dst_after in
     record {
       value = both.0;
       bytes_after = both.1;

@@ -7,4 +7,4 @@ use Rattle.form.proofs.fields.cell.Goals as goal
 
 pub returns : goal.returns
 unfolding cells
-returns c = ap (up_to Blank) c.part32.ensures ∙ name_at c.args.k (search rules)
+returns c = ap (up_to Blank) c.part.ensures ∙ name_at c.args.k (search rules)

@@ -27,4 +27,4 @@ pub returns-else-n-eq0 : goal.returns-else-n-eq0
 unfolding record_root
 returns-else-n-eq0 c =
     let a = c.args.self in
-    c.part32.ensures ∙ sym (c.loop-k.invariant.1.1 ∙ fold_full a.nodes c.loop-k.x c.loop-k.k c.loop-k.n c.loop-k.invariant.1.0 (omega arith) (omega arith))
+    c.part.ensures ∙ sym (c.loop-k.invariant.1.1 ∙ fold_full a.nodes c.loop-k.x c.loop-k.k c.loop-k.n c.loop-k.invariant.1.0 (omega arith) (omega arith))

@@ -13,4 +13,4 @@ returns-then-self-ge-TREE_LEAVES c =
 pub returns : goal.returns
 returns c =
     let a = c.args in
-    ap (λ (ns : List ℕ). record { leaves = a.self.leaves + 1; nodes = ns }) c.carried-new.ensures ∙ sym (with_leaf a.self a.leaf (omega arith))
+    ap (λ (ns : List ℕ). record { leaves = a.self.leaves + 1; nodes = ns }) c.carried-self.ensures ∙ sym (with_leaf a.self a.leaf (omega arith))

@@ -1,7 +1,0 @@
-use Rattle.octets.specs.Numbers.{big}
-use borrow.Author.Rules.{rules}
-use Rattle.octets.proofs.be32_of.Goals as goal
-
-pub returns : goal.returns
-unfolding big
-returns c = search rules

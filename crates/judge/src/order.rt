@@ -3,10 +3,10 @@
 // Where the rows of a table stand is left to the modules beside this one.
 ghost use Rattle.std.specs.Prelude.{◌≡◌, ◌+◌, ◌≤◌, length, take, drop};
 ghost use Rattle.octets.specs.Numbers.{big};
-ghost use Rattle.ledger.specs.Sorted.{is_less, is_equal};
+ghost use Rattle.std.specs.Ordering.{is_lt, is_eq};
 ghost use Rattle.ledger.specs.Rows.{byte_order};
 
-use ledger::Order;
+use std::cmp::Ordering;
 
 // The number that the eight bytes at index at write. For this crate alone, whose modules know that they are there.
 pub fn word(s: &[u8], at: usize) -> u64
@@ -27,7 +27,7 @@ pub fn word(s: &[u8], at: usize) -> u64
 
 // How the row of a at index i stands to the row of b at index j, word after word. For this crate alone,
 // whose other modules know that both rows are there.
-pub fn compare_words(a: &[u8], i: usize, b: &[u8], j: usize) -> Order
+pub fn compare_words(a: &[u8], i: usize, b: &[u8], j: usize) -> Ordering
     requires i_in_bounds { i + 32 ≤ length a.now }
     requires j_in_bounds { j + 32 ≤ length b.now }
     ensures { result ≡ byte_order (take 32 (drop i a.now)) (take 32 (drop j b.now)) }
@@ -36,18 +36,18 @@ pub fn compare_words(a: &[u8], i: usize, b: &[u8], j: usize) -> Order
         let x = word(a, i + k * 8);
         let y = word(b, j + k * 8);
         if x < y {
-            return Order::Less;
+            return Ordering::Less;
         }
         if y < x {
-            return Order::Greater;
+            return Ordering::Greater;
         }
     }
-    Order::Equal
+    Ordering::Equal
 }
 
 // The same, and for this crate alone too. Of two rows of hashes the first words nearly always decide: they
 // are compared here, in few enough instructions to be compiled into a caller's loop.
-pub fn compare(a: &[u8], i: usize, b: &[u8], j: usize) -> Order
+pub fn compare(a: &[u8], i: usize, b: &[u8], j: usize) -> Ordering
     requires i_in_bounds { i + 32 ≤ length a.now }
     requires j_in_bounds { j + 32 ≤ length b.now }
     ensures { result ≡ byte_order (take 32 (drop i a.now)) (take 32 (drop j b.now)) }
@@ -55,10 +55,10 @@ pub fn compare(a: &[u8], i: usize, b: &[u8], j: usize) -> Order
     let x = word(a, i);
     let y = word(b, j);
     if x < y {
-        return Order::Less;
+        return Ordering::Less;
     }
     if y < x {
-        return Order::Greater;
+        return Ordering::Greater;
     }
     compare_words(a, i, b, j)
 }
@@ -68,7 +68,7 @@ pub fn compare(a: &[u8], i: usize, b: &[u8], j: usize) -> Order
 pub fn is_below(a: &[u8], i: usize, b: &[u8], j: usize) -> bool
     requires i_in_bounds { i + 32 ≤ length a.now }
     requires j_in_bounds { j + 32 ≤ length b.now }
-    ensures { result ≡ is_less (byte_order (take 32 (drop i a.now)) (take 32 (drop j b.now))) }
+    ensures { result ≡ is_lt (byte_order (take 32 (drop i a.now)) (take 32 (drop j b.now))) }
 {
     let x = word(a, i);
     let y = word(b, j);
@@ -78,7 +78,7 @@ pub fn is_below(a: &[u8], i: usize, b: &[u8], j: usize) -> bool
     if y < x {
         return false;
     }
-    compare_words(a, i, b, j).is_less()
+    compare_words(a, i, b, j).is_lt()
 }
 
 // Whether the two rows are equal, up to the first words that differ; without a call, so that a walk has none. For
@@ -86,7 +86,7 @@ pub fn is_below(a: &[u8], i: usize, b: &[u8], j: usize) -> bool
 pub fn is_same(a: &[u8], i: usize, b: &[u8], j: usize) -> bool
     requires i_in_bounds { i + 32 ≤ length a.now }
     requires j_in_bounds { j + 32 ≤ length b.now }
-    ensures { result ≡ is_equal (byte_order (take 32 (drop i a.now)) (take 32 (drop j b.now))) }
+    ensures { result ≡ is_eq (byte_order (take 32 (drop i a.now)) (take 32 (drop j b.now))) }
 {
     for k in 0..4 {
         let x = word(a, i + k * 8);

@@ -9,7 +9,7 @@ ghost use Rattle.ledger.specs.Rows.{byte_order, shifted, with_row, table_with_tw
 
 use crate::order::{compare, is_below, word};
 use crate::rows::start_of;
-use ledger::{Found, Order};
+use std::cmp::Ordering;
 use units::Row;
 
 // A row at or after low, up to which the rows rise by their first words alone: eight rows a turn, each of them
@@ -17,8 +17,9 @@ use units::Row;
 // rows, it stops. The loop counts bytes. For `is_rising` alone.
 fn rises_to(table: &[u8], low: Row, count: usize) -> Row
     requires { (low.0 < count) × (count * 32 ≤ length table.now) }
-    ensures low_le_result { (low.0 ≤ result.0) × (result.0 < count) }
-    ensures table_value { rising byte_order (drop low.0 (rows_of count table.now)) ≡ rising byte_order (drop result.0 (rows_of count table.now)) }
+    ensures not_before { low.0 ≤ result.0 }
+    ensures in_use { result.0 < count }
+    ensures rises_to_it { rising byte_order (drop low.0 (rows_of count table.now)) ≡ rising byte_order (drop result.0 (rows_of count table.now)) }
 {
     let end = count * 32;
     let mut at = start_of(low);
@@ -79,9 +80,9 @@ fn middle(low: Row, high: Row) -> Row
 // Where a row stands among the first count, or the gap for it. It is above all rows before low, and below row
 // high and all after it; each comparison leaves at most half of the rows between. For this crate alone, which
 // asks it of a table that rises.
-pub fn search(table: &[u8], count: usize, row: &[u8; 32]) -> Found
+pub fn search(table: &[u8], count: usize, row: &[u8; 32]) -> Result<Row, Row>
     requires count_in_bounds { count * 32 ≤ length table.now }
-    requires table_value { rising byte_order (rows_of count table.now) ≡ true }
+    requires table_rises { rising byte_order (rows_of count table.now) ≡ true }
     ensures { result ≡ find byte_order row.now (rows_of count table.now) }
 {
     let mut low = Row::of(0);
@@ -90,27 +91,27 @@ pub fn search(table: &[u8], count: usize, row: &[u8; 32]) -> Found
         let mid = middle(low, high);
         let o = compare(row, 0, table, start_of(mid));
         match o {
-            Order::Less => {
+            Ordering::Less => {
                 high = mid;
             }
-            Order::Equal => {
-                return Found::At(mid);
+            Ordering::Equal => {
+                return Ok(mid);
             }
-            Order::Greater => {
+            Ordering::Greater => {
                 low = mid.next();
             }
         }
     }
-    Found::Gap(low)
+    Err(low)
 }
 
 // The row that a search answers, whichever way it does.
-fn place(found: Found) -> Row
+fn place(found: Result<Row, Row>) -> Row
     ensures { result.0 ≡ place_of found }
 {
     match found {
-        Found::At(r) => r,
-        Found::Gap(r) => r,
+        Ok(r) => r,
+        Err(r) => r,
     }
 }
 
@@ -188,8 +189,8 @@ fn shift(table: &mut [u8], from: Row, to: Row)
 // since the caller does not learn that from the type of what it passes.
 fn enter_one(table: &mut [u8], count: usize, row: &[u8; 32])
     requires count_in_bounds { (count + 1) * 32 ≤ length table.old }
-    requires table_value { rising byte_order (rows_of count table.old) ≡ true }
-    requires table_value_2 { is_gap (find byte_order row.now (rows_of count table.old)) ≡ true }
+    requires table_rises { rising byte_order (rows_of count table.old) ≡ true }
+    requires row_is_new { is_gap (find byte_order row.now (rows_of count table.old)) ≡ true }
     ensures row_len { length row.now ≡ 32 }
     ensures table_after { table.new ≡ with_row count table.old row.now }
 {
@@ -202,7 +203,7 @@ fn enter_one(table: &mut [u8], count: usize, row: &[u8; 32])
 // of this crate alone, whose own caller has asked about both.
 pub fn enter_two(table: &mut [u8], count: usize, a: &[u8; 32], b: &[u8; 32])
     requires count_in_bounds { (count + 2) * 32 ≤ length table.old }
-    requires table_value { rising byte_order (rows_of count table.old) ≡ true }
+    requires table_rises { rising byte_order (rows_of count table.old) ≡ true }
     requires fresh { Fresh count table.old a.now b.now }
     ensures { table.new ≡ table_with_two count table.old a.now b.now }
 {

@@ -14,16 +14,17 @@ use Rattle.octets.specs.Rows.{rows_of, flat}
 use Rattle.octets.proofs.PartLaws.{field_length, field_part, pasted_is}
 use Rattle.octets.proofs.RowLaws.{rows_length, rows_at, take_rows, drop_rows, flat_append, flat_rows}
 use Rattle.units.specs.RowNumbers.{row_numbered}
-use Rattle.ledger.specs.Sorted.{is_less, is_equal, place_of, is_gap, rising, find, insert_all}
+use Rattle.ledger.specs.Sorted.{place_of, is_gap, rising, find, insert_all}
+use Rattle.std.specs.declared.cmp.Ordering.TheVariants.{Less, Equal, Greater}
+use Rattle.std.specs.Ordering.{is_lt, is_eq}
 use Rattle.ledger.specs.Rows.{byte_order, row_at, shifted, table_with, with_row, among}
-use Rattle.ledger.specs.declared.Order.TheVariants.{Less, Equal, Greater}
-use Rattle.ledger.specs.declared.Found.TheVariants.{At, Gap}
+use Rattle.std.specs.Prelude.{Ok, Err}
 use Rattle.ledger.proofs.ByteOrder.{Bytes, byte_total, same_order, decided_below, first_turn}
 use Rattle.ledger.proofs.Sorting.{rising_step, find_at, find_gap, place_le, insert_gap}
 
 -- a turn of the loop that asks whether the rows rise: two neighbours decide
 pub rising_turn : (n i : ℕ) (t : List ℕ) → i + 1 < n
-    → rising byte_order (drop i (rows_of n t)) ≡ (is_less (byte_order (row_at t i) (row_at t (i + 1))) && rising byte_order (drop (i + 1) (rows_of n t)))
+    → rising byte_order (drop i (rows_of n t)) ≡ (is_lt (byte_order (row_at t i) (row_at t (i + 1))) && rising byte_order (drop (i + 1) (rows_of n t)))
 rising_turn n i t h =
     rising_step byte_order byte_total [] (rows_of n t) i (omega (arith, rows_length n t)) ∙ rw (rows_at n i t (omega arith), rows_at n (i + 1) t h)
 
@@ -36,12 +37,12 @@ rising_by_words n i j a b t low high next h room bytes ex ey less =
 
 -- where a row stands among the first n, or would go, by the rows beside that place
 module _ (n k : ℕ) (t r : List ℕ) (rises : rising byte_order (rows_of n t) ≡ true) where
-  pub stands_at : k < n → byte_order r (row_at t k) ≡ Equal → At (row_numbered k) ≡ find byte_order r (rows_of n t)
+  pub stands_at : k < n → byte_order r (row_at t k) ≡ Equal → Ok (row_numbered k) ≡ find byte_order r (rows_of n t)
   stands_at h e =
       sym (find_at byte_order byte_total r [] (rows_of n t) k rises (omega (arith, rows_length n t)) (rw (rows_at n k t h) e))
 
   pub goes_at : k ≤ n → ((j : ℕ) → suc j ≡ k → byte_order r (row_at t j) ≡ Greater) → (k < n → byte_order r (row_at t k) ≡ Less)
-      → Gap (row_numbered k) ≡ find byte_order r (rows_of n t)
+      → Err (row_numbered k) ≡ find byte_order r (rows_of n t)
   goes_at h lo hi =
       let l : length (rows_of n t) ≡ n = rows_length n t in
       sym
@@ -50,7 +51,7 @@ module _ (n k : ℕ) (t r : List ℕ) (rises : rising byte_order (rows_of n t) �
 
 -- a turn of the loop over the roll, and its end
 pub roll_turn_lem : (n i : ℕ) (t r : List ℕ) → i < n
-    → among r (drop i (rows_of n t)) ≡ (is_equal (byte_order r (row_at t i)) || among r (drop (i + 1) (rows_of n t)))
+    → among r (drop i (rows_of n t)) ≡ (is_eq (byte_order r (row_at t i)) || among r (drop (i + 1) (rows_of n t)))
 unfolding among
 roll_turn_lem n i t r h =
     let k : i < length (rows_of n t) = omega (arith, rows_length n t) in

@@ -48,7 +48,7 @@ are_unspent-a8-requires c =
     let e = soundness in
     record {
       nullifiers_in_bounds = within c.args.counts.nullifiers most_nullifiers (length c.args.table.now) e.fits;
-      counts_value = e.rises;
+      table_rises = e.rises;
     }
 
 pub returns-then-not-is_accepted-2 : goal.returns-then-not-is_accepted-2

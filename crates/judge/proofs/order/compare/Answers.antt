@@ -2,8 +2,8 @@ use mathlib.Core.Path.{◌≡◌, sym, ◌∙◌}
 use Prim.Native.Nat.{◌+◌}
 use native.Mathlib.Omega.{arith}
 use lib.ListN.{take, drop}
-use Rattle.ledger.specs.Rows.{decided, byte_order}
-use Rattle.ledger.proofs.ByteOrder.{decided_below, decided_above, first_turn}
+use Rattle.ledger.specs.Rows.{byte_order}
+use Rattle.ledger.proofs.ByteOrder.{decided, decided_below, decided_above, first_turn}
 use Rattle.judge.proofs.order.compare.Goals as goal
 
 pub returns-then-x-y : goal.returns-then-x-y

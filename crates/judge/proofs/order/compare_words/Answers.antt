@@ -4,8 +4,8 @@ use Prim.Native.Nat.{◌+◌}
 use native.Mathlib.Nat.{add-zero}
 use native.Mathlib.Omega.{arith}
 use lib.ListN.{take, drop}
-use Rattle.ledger.specs.Rows.{decided, byte_order}
-use Rattle.ledger.proofs.ByteOrder.{decided_below, decided_above, decided_level, from_word, word_turn}
+use Rattle.ledger.specs.Rows.{byte_order}
+use Rattle.ledger.proofs.ByteOrder.{decided, decided_below, decided_above, decided_level, from_word, word_turn}
 use borrow.Author.Rules.{rules}
 use Rattle.judge.proofs.order.compare_words.Goals as goal
 

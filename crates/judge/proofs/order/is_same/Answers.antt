@@ -4,10 +4,10 @@ use Prim.Native.Nat.{◌+◌}
 use native.Mathlib.Nat.{add-zero}
 use native.Mathlib.Omega.{arith}
 use lib.ListN.{take, drop}
-use Rattle.ledger.specs.declared.Order.TheVariants.{Equal}
-use Rattle.ledger.specs.Sorted.{is_equal}
-use Rattle.ledger.specs.Rows.{decided, byte_order}
-use Rattle.ledger.proofs.ByteOrder.{decided_below, decided_above, decided_level, from_word, word_turn}
+use Rattle.std.specs.declared.cmp.Ordering.TheVariants.{Equal}
+use Rattle.std.specs.Ordering.{is_eq}
+use Rattle.ledger.specs.Rows.{byte_order}
+use Rattle.ledger.proofs.ByteOrder.{decided, decided_below, decided_above, decided_level, from_word, word_turn}
 use borrow.Author.Rules.{rules}
 use Rattle.judge.proofs.order.is_same.Goals as goal
 
@@ -22,7 +22,7 @@ returns-then-x-y c =
     c.loop-k.invariant.1
     ∙ word_turn a.a.now a.i a.b.now a.j c.loop-k.k (omega arith) (omega arith) (omega arith)
     (λ n. (c.shared_slice_known-1.given n).fits) (λ n. (c.shared_slice_known-2-1.given n).fits) c.word-x.ensures c.word-y.ensures in
-    sym (ap is_equal (turn ∙ decided_below _ c.if-x-y.true))
+    sym (ap is_eq (turn ∙ decided_below _ c.if-x-y.true))
 
 pub returns-then-y-x : goal.returns-then-y-x
 returns-then-y-x c =
@@ -32,7 +32,7 @@ returns-then-y-x c =
     c.loop-k.invariant.1
     ∙ word_turn a.a.now a.i a.b.now a.j c.loop-k.k (omega arith) (omega arith) (omega arith)
     (λ n. (c.shared_slice_known-1.given n).fits) (λ n. (c.shared_slice_known-2-1.given n).fits) c.word-x.ensures c.word-y.ensures in
-    sym (ap is_equal (turn ∙ decided_above _ c.if-y-x.true))
+    sym (ap is_eq (turn ∙ decided_above _ c.if-y-x.true))
 
 pub loop-k-preserved : goal.loop-k-preserved
 loop-k-preserved c =
@@ -51,4 +51,4 @@ returns c =
     let e : l.k ≡ 4 = omega arith in
     let a = c.args in
     let ended : from_word l.k a.a.now a.i a.b.now a.j ≡ Equal = rw e in
-    sym (ap is_equal (l.invariant.1 ∙ ended))
+    sym (ap is_eq (l.invariant.1 ∙ ended))

@@ -7,7 +7,7 @@ use native.Mathlib.Omega.{arith}
 use borrow.Author.Tests.{ltb-true, ltb-false}
 use lib.ListN.{take, drop}
 use lib.Seq.{take_all}
-use Rattle.ledger.specs.Sorted.{is_equal}
+use Rattle.std.specs.Ordering.{is_eq}
 use Rattle.ledger.specs.Rows.{byte_order, among}
 use Rattle.octets.specs.Rows.{rows_of}
 use Rattle.ledger.proofs.RowLaws.{roll_turn_lem, roll_end}
@@ -39,9 +39,9 @@ returns-then-is_same c =
     let rows = rows_of a.count a.roll.now in
     among a.row.now rows ≡ (c.is_same.result || among a.row.now (drop (c.loop-i.i.0 + 1) rows)) = let a = c.args in
     let rest = among a.row.now (drop (c.loop-i.i.0 + 1) (rows_of a.count a.roll.now)) in
-    let e : c.is_same.result ≡ is_equal (byte_order (take 32 a.row.now) (take 32 (drop c.start_of.result a.roll.now))) = c.is_same.ensures in
+    let e : c.is_same.result ≡ is_eq (byte_order (take 32 a.row.now) (take 32 (drop c.start_of.result a.roll.now))) = c.is_same.ensures in
     let told = e
-    ∙ ap₂ (λ (r : List ℕ) (k : ℕ). is_equal (byte_order r (take 32 (drop k a.roll.now)))) (take_all 32 a.row.now (omega (arith, c.is_same-arg-1.given))) c.start_of.ensures in
+    ∙ ap₂ (λ (r : List ℕ) (k : ℕ). is_eq (byte_order r (take 32 (drop k a.roll.now)))) (take_all 32 a.row.now (omega (arith, c.is_same-arg-1.given))) c.start_of.ensures in
     c.loop-i.invariant.1 ∙ roll_turn_lem a.count c.loop-i.i.0 a.roll.now a.row.now (within)
     ∙ ap (λ (b : Bool). b || rest) (sym told) in
     sym (turn ∙ rw c.if-is_same.true)
@@ -58,9 +58,9 @@ loop-i-preserved c =
     let rows = rows_of a.count a.roll.now in
     among a.row.now rows ≡ (c.is_same.result || among a.row.now (drop (c.loop-i.i.0 + 1) rows)) = let a = c.args in
     let rest = among a.row.now (drop (c.loop-i.i.0 + 1) (rows_of a.count a.roll.now)) in
-    let e : c.is_same.result ≡ is_equal (byte_order (take 32 a.row.now) (take 32 (drop c.start_of.result a.roll.now))) = c.is_same.ensures in
+    let e : c.is_same.result ≡ is_eq (byte_order (take 32 a.row.now) (take 32 (drop c.start_of.result a.roll.now))) = c.is_same.ensures in
     let told = e
-    ∙ ap₂ (λ (r : List ℕ) (k : ℕ). is_equal (byte_order r (take 32 (drop k a.roll.now)))) (take_all 32 a.row.now (omega (arith, c.is_same-arg-1.given))) c.start_of.ensures in
+    ∙ ap₂ (λ (r : List ℕ) (k : ℕ). is_eq (byte_order r (take 32 (drop k a.roll.now)))) (take_all 32 a.row.now (omega (arith, c.is_same-arg-1.given))) c.start_of.ensures in
     c.loop-i.invariant.1 ∙ roll_turn_lem a.count c.loop-i.i.0 a.roll.now a.row.now (within)
     ∙ ap (λ (b : Bool). b || rest) (sym told) in
     let a = c.args in

@@ -43,5 +43,5 @@ returns c =
       table_after = c.copy_in.ensures.dst_after
           ∙ ap₂ (λ (at : ℕ) (t : List ℕ). pasted at a.row.now t) c.start_of.ensures
           (c.shift.ensures ∙ ap (λ (n : ℕ). shifted a.table.now (k * 32) (n * 32)) c.of.ensures)
-          ∙ put_row a.count k a.table.now a.row.now c.requires.count_in_bounds long (placed) c.requires.table_value_2;
+          ∙ put_row a.count k a.table.now a.row.now c.requires.count_in_bounds long (placed) c.requires.row_is_new;
     }

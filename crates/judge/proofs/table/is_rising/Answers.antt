@@ -6,7 +6,8 @@ use Prim.Native.Nat.{ℕ, ◌+◌, ◌*◌, ◌<◌, ◌≤◌}
 use native.Mathlib.Omega.{arith}
 use borrow.Author.Tests.{ltb-true, ltb-false, not-true, not-false}
 use lib.ListN.{take, drop}
-use Rattle.ledger.specs.Sorted.{is_less, rising}
+use Rattle.ledger.specs.Sorted.{rising}
+use Rattle.std.specs.Ordering.{is_lt}
 use Rattle.ledger.specs.Rows.{byte_order}
 use Rattle.octets.specs.Rows.{rows_of}
 use Rattle.ledger.proofs.ByteOrder.{byte_total}
@@ -21,7 +22,7 @@ from table count k = rising byte_order (drop k (rows_of count table))
 
 -- whether the row at index j is below the row at index k
 abbrev below : List ℕ → ℕ → ℕ → Bool
-below t j k = is_less (byte_order (take 32 (drop j t)) (take 32 (drop k t)))
+below t j k = is_lt (byte_order (take 32 (drop j t)) (take 32 (drop k t)))
 
 -- with at most one row left the rows rise
 ended : (t : List ℕ) (n k : ℕ) → n ≤ k + 1 → from t n k ≡ true
@@ -69,7 +70,7 @@ returns-then-not-rises c =
     let both : low + 1 < c.args.count = let h : c.next-next.result.0 < c.args.count = ltb-true _ _ (sym c.is_within-in-loop-next.ensures ∙ c.if-is_within.true) in
     omega (arith, h, after) in
     let reached : let a = c.args in
-    rising byte_order (rows_of a.count a.table.now) ≡ from a.table.now a.count (low) = c.loop-next.invariant ∙ c.rises_to-low.ensures.table_value in
+    rising byte_order (rows_of a.count a.table.now) ≡ from a.table.now a.count (low) = c.loop-next.invariant ∙ c.rises_to-low.ensures.rises_to_it in
     let turn : let a = c.args in
     rising byte_order (rows_of a.count a.table.now) ≡ (c.is_below-rises.result && from a.table.now a.count (low + 1)) = let a = c.args in
     let f : c.is_below-rises.result ≡ below a.table.now c.start_of.result c.start_of-then-is_within.result = c.is_below-rises.ensures in
@@ -93,7 +94,7 @@ loop-next-preserved-else-not-rises c =
     let both : low + 1 < c.args.count = let h : c.next-next.result.0 < c.args.count = ltb-true _ _ (sym c.is_within-in-loop-next.ensures ∙ c.if-is_within.true) in
     omega (arith, h, after) in
     let reached : let a = c.args in
-    rising byte_order (rows_of a.count a.table.now) ≡ from a.table.now a.count (low) = c.loop-next.invariant ∙ c.rises_to-low.ensures.table_value in
+    rising byte_order (rows_of a.count a.table.now) ≡ from a.table.now a.count (low) = c.loop-next.invariant ∙ c.rises_to-low.ensures.rises_to_it in
     let turn : let a = c.args in
     rising byte_order (rows_of a.count a.table.now) ≡ (c.is_below-rises.result && from a.table.now a.count (low + 1)) = let a = c.args in
     let f : c.is_below-rises.result ≡ below a.table.now c.start_of.result c.start_of-then-is_within.result = c.is_below-rises.ensures in
@@ -117,7 +118,7 @@ loop-next-preserved c =
     let low : ℕ = c.rises_to-low.result.0 in
     let after : c.next-next.result.0 ≡ low + 1 = omega arith in
     let reached : let a = c.args in
-    rising byte_order (rows_of a.count a.table.now) ≡ from a.table.now a.count (low) = c.loop-next.invariant ∙ c.rises_to-low.ensures.table_value in
+    rising byte_order (rows_of a.count a.table.now) ≡ from a.table.now a.count (low) = c.loop-next.invariant ∙ c.rises_to-low.ensures.rises_to_it in
     let last : c.args.count ≤ low + 1 = let h : c.args.count ≤ c.next-next.result.0 = ltb-false _ _ (sym c.is_within-in-loop-next.ensures ∙ c.if-is_within.false) in
     omega (arith, h, after) in
     let a = c.args in

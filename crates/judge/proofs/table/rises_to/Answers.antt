@@ -87,8 +87,9 @@ returns-then-before-one c =
     let a = c.args in
     let all = answers a.table.now a.count a.low.0 c.loop-at.invariant.0 c.start_of-at.ensures c.of.ensures in
     record {
-      low_le_result = all.0;
-      table_value = all.1;
+      not_before = all.0.0;
+      in_use = all.0.1;
+      rises_to_it = all.1;
     }
 
 pub overflow_add-at-in-loop-at-9 : goal.overflow_add-at-in-loop-at-9
@@ -124,6 +125,7 @@ returns c =
     let a = c.args in
     let all = answers a.table.now a.count a.low.0 c.loop-at.invariant.0 c.start_of-at.ensures c.of-2.ensures in
     record {
-      low_le_result = all.0;
-      table_value = all.1;
+      not_before = all.0.0;
+      in_use = all.0.1;
+      rises_to_it = all.1;
     }

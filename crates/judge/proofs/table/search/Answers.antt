@@ -92,7 +92,7 @@ returns-in-Equal c =
     let e : c.compare-o.result ≡ byte_order (take 32 a.row.now) (take 32 (drop c.start_of.result a.table.now)) = c.compare-o.ensures in
     e ∙ ap₂ (λ (r : List ℕ) (k : ℕ). byte_order r (take 32 (drop k a.table.now))) (take_all 32 a.row.now (omega (arith, c.compare-arg-1.given))) c.start_of.ensures in
     let a = c.args in
-    stands_at a.count c.middle-mid.result.0 a.table.now a.row.now c.requires.table_value (omega (arith, (half_way).1)) (sym (told) ∙ c.in-Equal.is)
+    stands_at a.count c.middle-mid.result.0 a.table.now a.row.now c.requires.table_rises (omega (arith, (half_way).1)) (sym (told) ∙ c.in-Equal.is)
 
 pub loop-high-smaller : goal.loop-high-smaller
 loop-high-smaller c =
@@ -128,4 +128,4 @@ returns c =
     let a = c.args in
     let past : c.index.result ≤ c.loop-high.low.0 = ltb-false _ _ (sym c.is_within.ensures ∙ c.loop-high-test.false) in
     let k : c.loop-high.high.0 ≡ c.loop-high.low.0 = omega (arith, c.index.ensures, c.loop-high.invariant.0) in
-    goes_at a.count c.loop-high.low.0 a.table.now a.row.now c.requires.table_value (omega (arith, c.loop-high.invariant.1)) c.loop-high.invariant.2 (rw (← k) c.loop-high.invariant.3)
+    goes_at a.count c.loop-high.low.0 a.table.now a.row.now c.requires.table_rises (omega (arith, c.loop-high.invariant.1)) c.loop-high.invariant.2 (rw (← k) c.loop-high.invariant.3)

@@ -4,7 +4,7 @@ use mathlib.Core.Path.{◌≡◌}
 use Prim.Native.Nat.{ℕ, suc, ◌-◌, ◌<◌, ◌≤◌}
 use lib.Ieee.{size}
 use Rattle.ledger.specs.Rows.{byte_order, row_at}
-use Rattle.ledger.specs.declared.Order.TheVariants.{Less, Greater}
+use Rattle.std.specs.declared.cmp.Ordering.TheVariants.{Less, Greater}
 use Rattle.judge.proofs.table.search.Given as goal
 
 abbrev pub invariant-loop-high : goal.invariant-loop-high

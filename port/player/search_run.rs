@@ -3,7 +3,6 @@
 use std::panic::{catch_unwind, AssertUnwindSafe};
 
 use crate::judge::table::search;
-use crate::ledger::Found;
 use crate::{choose, counted, variant};
 
 /// Row i of a table has the number 2 i + 1, so an even number 2 i goes into the gap before it. The eight bytes of the
@@ -30,8 +29,8 @@ fn searched(table: &[u8], rows: usize, number: usize) -> (Option<String>, u32) {
     counted();
     let row = numbered(rows, number);
     let place = match catch_unwind(AssertUnwindSafe(|| search(table, rows, &row))) {
-        Ok(Found::At(row)) => Some(("row", row.index())),
-        Ok(Found::Gap(row)) => Some(("gap", row.index())),
+        Ok(Ok(row)) => Some(("row", row.index())),
+        Ok(Err(row)) => Some(("gap", row.index())),
         Err(_) => None,
     };
     let took = counted();

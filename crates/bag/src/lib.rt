@@ -17,7 +17,8 @@ pub const MOST_BYTES: usize = 65536;
 
 const MOST_ROWS: usize = 8;
 
-// A row of the table of contents: what its body is, where it starts, how long it is.
+// A row of the table of contents: what its body is, where it starts, how long it is. The kind stays a byte: it is only
+// compared with the one that its row must have, and an enum would need a reading that can fail.
 #[derive(Clone, Copy)]
 struct Entry {
     kind: u8,
@@ -26,7 +27,7 @@ struct Entry {
 }
 
 // What scanning a bag gave. An answer that was not given is 255 and 0, which no refusal has, so that none
-// is ever taken for a pass.
+// is ever taken for a pass. The product has no heap, so the answers are an array and a count.
 #[derive(Clone, Copy)]
 pub struct Scanned {
     pub layout: Answer,
@@ -63,7 +64,8 @@ fn kind_at(i: usize) -> u8
     if i == 0 { 1 } else { 2 }
 }
 
-// Whether each row has its kind and each body starts where the one before ended, up to the end.
+// Whether each row has its kind and each body starts where the one before ended, up to the end. Rows are read by
+// number, as a bag may end within its table, and what is missing reads as zero.
 fn is_in_order(bag: &[u8], n: usize) -> bool
     requires { n ≤ 8 }
     ensures { result ≡ in_order n 0 (row_start n) bag.now }
@@ -100,7 +102,7 @@ fn is_laid_out(bag: &[u8]) -> bool
 }
 
 // The body of a row, as a part of the bag: nothing is copied.
-fn body<'a>(bag: &'a [u8], i: usize) -> &'a [u8]
+fn body(bag: &[u8], i: usize) -> &[u8]
     requires i_bound { i < 8 }
     requires bag_in_bounds { (entry_of i bag.now).offset + (entry_of i bag.now).size ≤ length bag.now }
     ensures { result.now ≡ body_of i bag.now }
@@ -147,11 +149,9 @@ fn judge_cases(bag: &[u8], table: &mut [u8], roll: &[u8], start: Ledger) -> Scan
     let mut ledger = start;
     for i in 1..n {
         let case = body(bag, i);
-        let j = judge::judge(case, &mut *table, roll, ledger);
-        let given = j.answer;
-        let next = j.ledger;
-        answers[i - 1] = given;
-        ledger = next;
+        let judged = judge::judge(case, &mut *table, roll, ledger);
+        answers[i - 1] = judged.answer;
+        ledger = judged.ledger;
     }
     let passed = Answer::accepted();
     Scanned {

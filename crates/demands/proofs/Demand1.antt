@@ -16,9 +16,10 @@ use Rattle.sprout.specs.Hashes.{has_top_bits}
 use Rattle.casefile.proofs.Editions.{two_lengths}
 use Rattle.statement.specs.CaseRefusals.{both_public, above_money, out_of_range, ends_elsewhere, unbalanced, differs, path_end_of, no1, no4, no5, no7, no9, no10, no11, no12, no13, no14, no15, no16, range_of, strays_of, unbalanced_of, nullifier_wrong, address_wrong, tag_wrong, rho_wrong, commitment_wrong, old_commitment_of, h_sig_of}
 use Rattle.ledger.specs.declared.Ledger.{Ledger}
-use Rattle.ledger.specs.declared.Order.{Order}
-use Rattle.ledger.specs.declared.Order.TheVariants.{Less, Equal, Greater}
-use Rattle.ledger.specs.Sorted.{rising, is_less}
+use Rattle.std.specs.declared.cmp.Ordering.{Ordering}
+use Rattle.std.specs.declared.cmp.Ordering.TheVariants.{Less, Equal, Greater}
+use Rattle.std.specs.Ordering.{is_lt}
+use Rattle.ledger.specs.Sorted.{rising}
 use Rattle.ledger.specs.Rows.{byte_order, among}
 use Rattle.ledger.specs.Ledgers.{most_anchors, room_in, spent_rows, damage, damaged, some, pool_after, outside, no2, no3, no6, no8, no17, close_refusals, closed_of, roll_after_close, open_refusals, empty_ledger, opened_of, roll_after_open}
 use Rattle.ledger.proofs.Soundness.{among_member, member_among}
@@ -32,10 +33,10 @@ use Rattle.demands.specs.Refusals.{Rises, Damaged, case_sentences, all_places, c
 a_member : {x : List ℕ} {rows : List (List ℕ)} → Tells (among x rows) (Memᴰ x rows)
 a_member {x} {rows} = (among_member x rows, member_among x rows)
 
-less : (o : Order) → Tells (is_less o) (o ≡ Less)
+less : (o : Ordering) → Tells (is_lt o) (o ≡ Less)
 less Less = (λ h. refl, λ e. refl)
-less Equal = (λ h. absurd (false≢true h), λ e. ap is_less e)
-less Greater = (λ h. absurd (false≢true h), λ e. ap is_less e)
+less Equal = (λ h. absurd (false≢true h), λ e. ap is_lt e)
+less Greater = (λ h. absurd (false≢true h), λ e. ap is_lt e)
 
 rises : (rows : List (List ℕ)) → Tells (rising byte_order rows) (Rises rows)
 unfolding rising Rises

@@ -12,7 +12,7 @@ use Rattle.sprout.specs.Hashes.{address_from, nullifier_from, mac_from, rho_from
 use Rattle.tree.specs.Record.{path_end}
 use Rattle.casefile.specs.Fields.{vpub_old_of, vpub_new_of, anchor_of, nullifier_of, commitment_of, tag_of, old_key_of, old_address_of, old_value_of, old_rho_of, old_position_of, old_path_of, new_rho_of, phi_of}
 use Rattle.ledger.specs.declared.Ledger.{Ledger}
-use Rattle.ledger.specs.declared.Order.TheVariants.{Less}
+use Rattle.std.specs.declared.cmp.Ordering.TheVariants.{Less}
 use Rattle.ledger.specs.Rows.{byte_order, row_at}
 use Rattle.ledger.specs.Ledgers.{most_nullifiers, most_anchors, room_in, spent_rows, anchor_rows}
 use Rattle.demands.specs.Validity.{LeavesFree, IsWhole, old_note, new_note, value_in, value_out, h_sig}

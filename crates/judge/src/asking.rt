@@ -17,10 +17,10 @@ ghost use Rattle.judge.specs.Settling.{kept_unless, own_or};
 use crate::money::is_outside;
 use crate::roll::stands_on;
 use crate::table::{is_rising, search};
-use ledger::{Found, MOST_ANCHORS, MOST_NULLIFIERS};
+use ledger::{MOST_ANCHORS, MOST_NULLIFIERS};
 use ledgerbytes::Counts;
 use refusals::{Answer, Refusal};
-use units::Which;
+use units::{Row, Which};
 
 // How many rows a lent length holds, and at most so many.
 pub fn room_in(most: usize, len: usize) -> usize
@@ -96,9 +96,9 @@ fn is_anchored(roll: &[u8], counts: Counts, case: &[u8]) -> Result<(), Refusal>
 }
 
 // Where a nullifier of the case stands in the table, or would go.
-fn look_up(table: &[u8], counts: Counts, case: &[u8], i: Which) -> Found
+fn look_up(table: &[u8], counts: Counts, case: &[u8], i: Which) -> Result<Row, Row>
     requires nullifiers_in_bounds { counts.nullifiers * 32 ≤ length table.now }
-    requires counts_value { rising byte_order (spent_rows table.now (bare counts)) ≡ true }
+    requires table_rises { rising byte_order (spent_rows table.now (bare counts)) ≡ true }
     ensures { result ≡ find byte_order (nullifier_of (number_of i) case.now) (spent_rows table.now (bare counts)) }
 {
     let nullifier = casefile::nullifier(case, i);
@@ -108,23 +108,18 @@ fn look_up(table: &[u8], counts: Counts, case: &[u8], i: Which) -> Found
 // 8, with the row where it stands. In an empty table nothing is looked for.
 fn are_unspent(table: &[u8], counts: Counts, case: &[u8]) -> Result<(), Refusal>
     requires nullifiers_in_bounds { counts.nullifiers * 32 ≤ length table.now }
-    requires counts_value { rising byte_order (spent_rows table.now (bare counts)) ≡ true }
+    requires table_rises { rising byte_order (spent_rows table.now (bare counts)) ≡ true }
     ensures { as_answer result ≡ first (no8 table.now (bare counts) (nullifier_of 1 case.now) (nullifier_of 2 case.now)) }
 {
     if counts.nullifiers == 0 {
         return Ok(());
     }
-    let one = look_up(table, counts, case, Which::First);
-    match one {
-        Found::At(row) => {
-            return Err(Refusal::Spent(Which::First, row));
-        }
-        Found::Gap(_) => {}
+    if let Ok(row) = look_up(table, counts, case, Which::First) {
+        return Err(Refusal::Spent(Which::First, row));
     }
-    let two = look_up(table, counts, case, Which::Second);
-    match two {
-        Found::At(row) => Err(Refusal::Spent(Which::Second, row)),
-        Found::Gap(_) => Ok(()),
+    match look_up(table, counts, case, Which::Second) {
+        Ok(row) => Err(Refusal::Spent(Which::Second, row)),
+        Err(_) => Ok(()),
     }
 }
 

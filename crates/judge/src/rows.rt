@@ -1,6 +1,7 @@
 // Where the rows of a lent table or roll stand: 32 bytes each, one after the other.
 // What stands in them is left to the modules beside this one.
-ghost use Rattle.std.specs.Prelude.{◌≡◌, ◌*◌, ◌<◌, ◌^◌};
+ghost use Rattle.std.specs.Prelude.{◌≡◌, ◌*◌, ◌<◌, ◌≤◌, ◌^◌, length};
+ghost use Rattle.octets.specs.Rows.{rows_of};
 
 use units::Row;
 
@@ -10,4 +11,14 @@ pub fn start_of(row: Row) -> usize
     ensures { result ≡ row.0 * 32 }
 {
     row.index() * 32
+}
+
+// The first count rows of lent bytes. For this crate alone, which asks for rows that are there.
+pub fn rows_in(bytes: &[u8], count: usize) -> &[[u8; 32]]
+    requires { count * 32 ≤ length bytes.now }
+    ensures rows { result.now ≡ rows_of count bytes.now }
+    ensures len { length result.now ≡ count }
+{
+    let (rows, _) = bytes[..count * 32].as_chunks::<32>();
+    rows
 }

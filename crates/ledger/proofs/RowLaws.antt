@@ -1,66 +1,55 @@
 -- The rows of a table: which they are, what a turn of each loop over them learns, and what moving bytes up makes of them.
 -- Assumes nothing.
-use Prim.Native.Nat.{ℕ, suc, ◌+◌, ◌-◌, ◌*◌, ◌<◌, ◌≤◌}
-use mathlib.Core.Path.{◌≡◌, sym, ap, ◌∙◌}
-use mathlib.Core.Bool.{true, false, ◌&&◌, ◌||◌}
-use mathlib.Core.List.{List, [], ◌∷◌, ◌++◌, append_assoc}
-use native.Mathlib.Numerals.{add-one}
+use Prim.Native.Nat.{ℕ, zero, suc, ◌+◌, ◌-◌, ◌*◌, ◌/◌, ◌<◌, ◌≤◌}
+use mathlib.Core.Path.{◌≡◌, refl, sym, ap, ap₂, ◌∙◌}
+use mathlib.Core.Bool.{true, ◌||◌}
+use mathlib.Core.List.{List, [], ◌∷◌, ◌++◌, append_assoc, append-nil}
 use native.Mathlib.Omega.{arith}
-use lib.ListN.{length, get_or, take, drop, set, take-append-drop, drop_of_length-le, length-append, length-drop, get_or-append}
-use lib.Seq.{drop-cons, take-suc, take-take, take-add, drop-drop, take-append-le, drop-append-le, drop_at, length-take-le, set_at, get_or-take, append_snoc}
-use Rattle.octets.specs.Numbers.{big}
-use Rattle.octets.specs.Parts.{field, pasted}
+use borrow.Rule.Slice.PartMut.{put_mid}
+use lib.ListN.{length, take, drop, take-append-drop, drop_of_length-le, length-append, length-drop}
+use lib.Seq.{take-take, take-add, drop-drop, take-append-le, drop-append-le, drop_at, length-take-le}
+use Rattle.std.proofs.lemmas.List.{drop-take}
+use Rattle.std.specs.Cmp.Lexicographic.{nat_list_eq_equiv, pointwise}
+use Rattle.std.specs.List.{copy_within, list_any}
+use Rattle.std.specs.Prelude.{nat_eq}
+use Rattle.std.specs.Simd.{first_chunks}
+use Rattle.octets.specs.Parts.{pasted}
 use Rattle.octets.specs.Rows.{rows_of, flat}
-use Rattle.octets.proofs.PartLaws.{field_length, field_part, pasted_is}
+use Rattle.octets.proofs.PartLaws.{pasted_is}
 use Rattle.octets.proofs.RowLaws.{rows_length, rows_at, take_rows, drop_rows, flat_append, flat_rows}
 use Rattle.units.specs.RowNumbers.{row_numbered}
-use Rattle.ledger.specs.Sorted.{is_less, is_equal, place_of, is_gap, rising, find, insert_all}
+use Rattle.ledger.specs.Sorted.{place_of, is_gap, rising, find, insert_all}
+use Rattle.std.specs.declared.cmp.Ordering.TheVariants.{Equal}
 use Rattle.ledger.specs.Rows.{byte_order, row_at, shifted, table_with, with_row, among}
-use Rattle.ledger.specs.declared.Order.TheVariants.{Less, Equal, Greater}
-use Rattle.ledger.specs.declared.Found.TheVariants.{At, Gap}
-use Rattle.ledger.proofs.ByteOrder.{Bytes, byte_total, same_order, decided_below, first_turn}
-use Rattle.ledger.proofs.Sorting.{rising_step, find_at, find_gap, place_le, insert_gap}
+use Rattle.std.specs.Prelude.{Ok}
+use Rattle.ledger.proofs.ByteOrder.{byte_total, same_pairs}
+use Rattle.ledger.proofs.Sorting.{find_at, place_le, insert_gap}
 
--- a turn of the loop that asks whether the rows rise: two neighbours decide
-pub rising_turn : (n i : ℕ) (t : List ℕ) → i + 1 < n
-    → rising byte_order (drop i (rows_of n t)) ≡ (is_less (byte_order (row_at t i) (row_at t (i + 1))) && rising byte_order (drop (i + 1) (rows_of n t)))
-rising_turn n i t h =
-    rising_step byte_order byte_total [] (rows_of n t) i (omega (arith, rows_length n t)) ∙ rw (rows_at n i t (omega arith), rows_at n (i + 1) t h)
+-- where a row stands among the first n
+pub stands_at : (n k : ℕ) (t r : List ℕ) → rising byte_order (rows_of n t) ≡ true → k < n → byte_order r (row_at t k) ≡ Equal
+    → Ok (row_numbered k) ≡ find byte_order r (rows_of n t)
+stands_at n k t r rises h e =
+    sym (find_at byte_order byte_total r [] (rows_of n t) k rises (omega (arith, rows_length n t)) (rw (rows_at n k t h) e))
 
--- the same turn by first words alone, of the rows at two indices: where the lower row's is below the other's, the rows rise exactly if those after do
-pub rising_by_words : (n i j a b : ℕ) (t : List ℕ) {x y : ℕ} → a ≡ i * 32 → b ≡ j * 32 → j ≡ i + 1 → j < n → n * 32 ≤ length t → Bytes t
-    → x ≡ big (take 8 (drop a t)) → y ≡ big (take 8 (drop b t)) → x < y → rising byte_order (drop i (rows_of n t)) ≡ rising byte_order (drop j (rows_of n t))
-rising_by_words n i j a b t low high next h room bytes ex ey less =
-    let e = first_turn t a t b (omega arith) (omega arith) bytes bytes ex ey ∙ decided_below _ less in
-    rising_turn n i t (omega arith) ∙ rw (← next, ← low, ← high, e)
+-- the first n rows as the chunks of as many bytes
+chunked : (n : ℕ) (t : List ℕ) → n * 32 ≤ length t → first_chunks 32 n (take (n * 32) t) ≡ rows_of n t
+unfolding rows_of
+chunked zero t h = refl
+chunked (suc n) t h =
+    let e : suc n * 32 ≡ 32 + n * 32 = omega arith in
+    rw (e, drop-take 32 (n * 32) t, take-take 32 (32 + n * 32) t (omega arith))
+    (ap (λ (l : List (List ℕ)). take 32 t ∷ l) (chunked n (drop 32 t) (omega (arith, length-drop 32 t))))
 
--- where a row stands among the first n, or would go, by the rows beside that place
-module _ (n k : ℕ) (t r : List ℕ) (rises : rising byte_order (rows_of n t) ≡ true) where
-  pub stands_at : k < n → byte_order r (row_at t k) ≡ Equal → At (row_numbered k) ≡ find byte_order r (rows_of n t)
-  stands_at h e =
-      sym (find_at byte_order byte_total r [] (rows_of n t) k rises (omega (arith, rows_length n t)) (rw (rows_at n k t h) e))
+pub rows_chunks : (n : ℕ) (t : List ℕ) → n * 32 ≤ length t → first_chunks 32 (length (take (n * 32) t) / 32) (take (n * 32) t) ≡ rows_of n t
+rows_chunks n t h =
+    let e : length (take (n * 32) t) / 32 ≡ n = omega (arith, length-take-le (n * 32) t h) in
+    rw e (chunked n t h)
 
-  pub goes_at : k ≤ n → ((j : ℕ) → suc j ≡ k → byte_order r (row_at t j) ≡ Greater) → (k < n → byte_order r (row_at t k) ≡ Less)
-      → Gap (row_numbered k) ≡ find byte_order r (rows_of n t)
-  goes_at h lo hi =
-      let l : length (rows_of n t) ≡ n = rows_length n t in
-      sym
-      (find_gap byte_order byte_total r [] (rows_of n t) k rises (omega arith)
-      (λ j e. rw (rows_at n j t (omega arith)) (lo j e)) (λ b. rw (rows_at n k t (omega arith)) (hi (omega arith))))
-
--- a turn of the loop over the roll, and its end
-pub roll_turn_lem : (n i : ℕ) (t r : List ℕ) → i < n
-    → among r (drop i (rows_of n t)) ≡ (is_equal (byte_order r (row_at t i)) || among r (drop (i + 1) (rows_of n t)))
+-- a row is among some exactly if it is equal to any of them
+pub any_among : (r : List ℕ) (l : List (List ℕ)) → list_any (λ x. pointwise nat_eq x r) l ≡ among r l
 unfolding among
-roll_turn_lem n i t r h =
-    let k : i < length (rows_of n t) = omega (arith, rows_length n t) in
-    rw (drop-cons (rows_of n t) i [] k, rows_at n i t h, same_order r (row_at t i), add-one)
-
-pub roll_end : (n i : ℕ) (t r : List ℕ) → n ≤ i → among r (drop i (rows_of n t)) ≡ false
-unfolding among
-roll_end n i t r h =
-    let k : length (rows_of n t) ≤ i = omega (arith, rows_length n t) in
-    rw (drop_of_length-le (rows_of n t) k)
+any_among r [] = refl
+any_among r (x ∷ l) = ap₂ ◌||◌ (nat_list_eq_equiv.symm x r ∙ sym (same_pairs r x)) (any_among r l)
 
 -- the bytes that the loop has moved up: none, and one more
 pub shifted_none : (t : List ℕ) (to : ℕ) → t ≡ shifted t to to
@@ -68,35 +57,6 @@ unfolding shifted
 shifted_none t to =
     let e : to - to ≡ 0 = omega arith in
     rw e (sym (take-append-drop (to + 32) t))
-
-module _ (t : List ℕ) (j to : ℕ) (h : j < to) (room : to + 32 ≤ length t) where
-  abbrev rest : List ℕ
-  rest = take (to - suc j) (drop (suc j) t) ++ drop (to + 32) t
-
-  upper : shifted t (suc j) to ≡ take (j + 32) t ++ (get_or t (j + 32) 0 ∷ rest)
-  unfolding shifted
-  upper =
-      let e : suc j + 32 ≡ suc (j + 32) = omega arith in
-      let k : j + 32 < length t = omega arith in
-      rw (e, take-suc t (j + 32) 0 k) (append_snoc (take (j + 32) t) (get_or t (j + 32) 0) rest)
-
-  lower : shifted t j to ≡ take (j + 32) t ++ (get_or t j 0 ∷ rest)
-  unfolding shifted
-  lower =
-      let e : to - j ≡ suc (to - suc j) = omega arith in
-      let k : j < length t = omega arith in
-      rw (e, drop-cons t j 0 k)
-
-  head_length : length (take (j + 32) t) ≡ j + 32
-  head_length = length-take-le (j + 32) t (omega arith)
-
-  moved : get_or (shifted t (suc j) to) j 0 ≡ get_or t j 0
-  moved =
-      rw upper
-      (get_or-append (take (j + 32) t) (get_or t (j + 32) 0 ∷ rest) 0 j (omega (arith, head_length)) ∙ get_or-take (j + 32) t j 0 (omega arith))
-
-  pub shifted_step : set (shifted t (suc j) to) (j + 32) (get_or (shifted t (suc j) to) j 0) ≡ shifted t j to
-  shifted_step = rw (moved, upper, lower) (set_at (take (j + 32) t) (get_or t (j + 32) 0) rest (get_or t j 0) (j + 32) head_length)
 
 -- a part of the front is the same whatever follows it
 front_part : (k i n : ℕ) (t q : List ℕ) → i + k ≤ n → n ≤ length t → take k (drop i (take n t ++ q)) ≡ take k (drop i t)
@@ -108,15 +68,23 @@ front_part k i n t q h room = front q ∙ sym (front (drop n t)) ∙ ap (λ (s :
         let left = length-drop i (take n t) in
         rw (drop-append-le i (take n t) q (omega arith)) (take-append-le k (drop i (take n t)) q (omega arith))
 
--- k bytes copied one row up
-pub shifted_block : (t : List ℕ) (i k : ℕ) → i + k + 32 ≤ length t → pasted (i + 32) (field i k t) t ≡ shifted t i (i + k)
+-- the bytes from index i up to index j copied one row up
+pub shifted_copy : (t : List ℕ) (i j : ℕ) → i ≤ j → copy_within t i j (i + 32) ≡ shifted t i j
 unfolding shifted
-shifted_block t i k room =
-    let part = field_part i k t (omega arith) in
-    let long = field_length i k t in
-    let e : i + 32 + k ≡ i + k + 32 = omega arith in
-    let f : i + k - i ≡ k = omega arith in
-    pasted_is (i + 32) (field i k t) t (omega arith) ∙ rw (long, part, e, f)
+shifted_copy t i j h =
+    let e : i + 32 + (j - i) ≡ j + 32 = omega arith in
+    rw e (append_assoc (take (i + 32) t) (take (j - i) (drop i t)) (drop (j + 32) t))
+
+-- four rows copied within the five from index i on
+pub shifted_four : (t : List ℕ) (i : ℕ) → i + 160 ≤ length t → put_mid i 160 t (copy_within (take 160 (drop i t)) 0 128 32) ≡ shifted t i (i + 128)
+unfolding shifted
+shifted_four t i room =
+    let q = drop i t in
+    let none : length (take 160 q) ≤ 160 = omega (arith, length-take-le 160 q (omega (arith, length-drop i t))) in
+    let e : i + 128 - i ≡ 128 = omega arith in
+    let f : i + 128 + 32 ≡ i + 160 = omega arith in
+    rw (take-take 32 160 q (omega arith), take-take 128 160 q (omega arith), drop_of_length-le (take 160 q) none, e, f, take-add i 32 t)
+    (simp (append_assoc, append-nil) (ap (λ (l : List ℕ). take i t ++ (take 32 q ++ (take 128 q ++ l))) (drop-drop 160 i t)))
 
 -- the bytes above index m moved up, and then those from index i up to there: all from i on
 pub shifted_more : (t : List ℕ) (i m to : ℕ) → i ≤ m → m ≤ to → to + 32 ≤ length t → shifted (shifted t m to) i m ≡ shifted t i to

@@ -9,8 +9,8 @@ use mathlib.Core.List.{List, [], ◌∷◌, ◌++◌, Memᴰ}
 use native.Mathlib.Omega.{arith}
 use lib.ListN.{length}
 use Rattle.ledger.specs.Sorted.{is_gap, Total, rising, find, insert, insert_all}
-use Rattle.ledger.specs.declared.Order.{Order}
-use Rattle.ledger.specs.declared.Order.TheVariants.{Equal}
+use Rattle.std.specs.declared.cmp.Ordering.{Ordering}
+use Rattle.std.specs.declared.cmp.Ordering.TheVariants.{Equal}
 use Rattle.ledger.proofs.Sorting.{insert_comm, rising_insert, length_insert, gap_same, gap_insert}
 use Rattle.ledger.proofs.Members.{member_insert, insert_member, same_members}
 
@@ -19,7 +19,7 @@ unfoldable pub Each : {A : Type 0} → (A → Type 0) → List A → Type 0
 Each P [] = Unit {0}
 Each P (x ∷ xs) = P x × Each P xs
 
-module _ {A : Type 0} (compare : A → A → Order) where
+module _ {A : Type 0} (compare : A → A → Ordering) where
   abbrev pub Differ : A → A → Type 0
   Differ x y = compare x y ≡ Equal → ⊥
 
@@ -33,7 +33,7 @@ module _ {A : Type 0} (compare : A → A → Order) where
   New [] l = Unit {0}
   New (x ∷ xs) l = (is_gap (find compare x l) ≡ true) × New xs (insert compare x l)
 
-module _ {A : Type 0} (compare : A → A → Order) (total : Total compare) where
+module _ {A : Type 0} (compare : A → A → Ordering) (total : Total compare) where
   -- those that differ and stand nowhere now stand nowhere when their turn comes
   gaps_insert : (x : A) (xs l : List A) → Each (Differ compare x) xs → Each (λ (y : A). is_gap (find compare y l) ≡ true) xs
       → Each (λ (y : A). is_gap (find compare y (insert compare x l)) ≡ true) xs

@@ -12,8 +12,8 @@ use Rattle.octets.specs.Rows.{rows_of, flat, Long}
 use Rattle.octets.proofs.RowLaws.{rows_length, rows_long, rows_flat_on, flat_length}
 use Rattle.ledger.specs.Sorted.{is_gap, rising, find, insert, insert_all}
 use Rattle.ledger.specs.Rows.{byte_order, table_with, with_row, table_with_two, Fresh}
-use Rattle.ledger.specs.declared.Order.{Order}
-use Rattle.ledger.specs.declared.Order.TheVariants.{Less, Equal, Greater}
+use Rattle.std.specs.declared.cmp.Ordering.{Ordering}
+use Rattle.std.specs.declared.cmp.Ordering.TheVariants.{Less, Equal, Greater}
 use Rattle.ledger.proofs.ByteOrder.{byte_total, differ_order}
 use Rattle.ledger.proofs.Several.{Each, Differ, Apart, New, apart_new, rising_all, length_all, gap_all, append_all, all_comm, any_order}
 
@@ -22,7 +22,7 @@ unfolding insert Long
 long_insert x [] h g = (h, tt)
 long_insert x (y ∷ l) h g = go (byte_order x y) refl (long_insert x l h g.1)
   where
-    go : (o : Order) → byte_order x y ≡ o → Long (insert byte_order x l) → Long (insert byte_order x (y ∷ l))
+    go : (o : Ordering) → byte_order x y ≡ o → Long (insert byte_order x l) → Long (insert byte_order x (y ∷ l))
     go Less o r = simp o (h, g)
     go Equal o r = simp o g
     go Greater o r = simp o (g.0, r)

@@ -3,49 +3,9 @@
 // are here; the code that reads or writes a table or a roll is in `judge`.
 #![tactic(auto)]
 
-ghost use Rattle.std.specs.Prelude.{◌≡◌};
-ghost use Rattle.ledger.specs.Sorted.{is_less, is_equal};
-
 use refusals::Answer;
 use tree::Tree;
-use units::{Amount, Row};
-
-// How one row stands to another.
-#[derive(Clone, Copy)]
-pub enum Order {
-    Less,
-    Equal,
-    Greater,
-}
-
-impl Order {
-    pub fn is_less(self) -> bool
-        ensures { result ≡ is_less self }
-    {
-        match self {
-            Order::Less => true,
-            Order::Equal => false,
-            Order::Greater => false,
-        }
-    }
-
-    pub fn is_equal(self) -> bool
-        ensures { result ≡ is_equal self }
-    {
-        match self {
-            Order::Less => false,
-            Order::Equal => true,
-            Order::Greater => false,
-        }
-    }
-}
-
-// What a search finds: the row itself, or the gap that it would fill.
-#[derive(Clone, Copy)]
-pub enum Found {
-    At(Row),
-    Gap(Row),
-}
+use units::Amount;
 
 // The most rows that are used of a nullifier table and of an anchor roll, however long they are lent.
 pub const MOST_NULLIFIERS: usize = 65536;

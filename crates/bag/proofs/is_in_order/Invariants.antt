@@ -5,7 +5,10 @@ use Rattle.bag.specs.Contents.{row_start, in_order}
 use Rattle.bag.proofs.is_in_order.Given as goal
 
 abbrev pub invariant-loop-i : goal.invariant-loop-i
-invariant-loop-i l = (l.i ≤ l.n) × ((l.at ≤ 100 + l.i * 4294967296) × (in_order l.n 0 (row_start l.n) l.bag ≡ in_order (l.n - l.i) l.i l.at l.bag))
+invariant-loop-i l = record {
+  bound : l.at ≤ 100 + l.i * 4294967296;
+  left : in_order l.n 0 (row_start l.n) l.bag ≡ in_order (l.n - l.i) l.i l.at l.bag;
+}
 
 abbrev pub decreases-loop-i : goal.decreases-loop-i
 decreases-loop-i l = l.n - l.i

@@ -13,7 +13,14 @@ loop-i-init c =
     let a = c.args in
     let k = kept a.bag.now c.requires in
     let n = c.row_count-n.ensures in
-    (search rules, (omega (arith, k.some, n), (omega (arith, k.few, n), (refl, (refl, start a.bag.now a.table.now a.roll.now a.start c.row_count-n.result c.not_given-none.result c.not_given-none.ensures n)))))
+    record {
+      first = omega arith;
+      last = omega (arith, k.some, n);
+      few = omega (arith, k.few, n);
+      room = refl;
+      as_long = refl;
+      before = start a.bag.now a.table.now a.roll.now a.start c.row_count-n.result c.not_given-none.result c.not_given-none.ensures n;
+    }
 
 pub body-case-requires : goal.body-case-requires
 body-case-requires c =
@@ -26,28 +33,21 @@ body-case-requires c =
 pub loop-i-preserved : goal.loop-i-preserved
 loop-i-preserved c =
     let a = c.args in
-    let i = c.loop-i.invariant in (
-      search rules,
-      (
-        search rules,
-        (
-          search rules,
-          (
-            length-set c.loop-i.answers (c.loop-i.i - 1) c.judge-j.result.answer ∙ i.1.1.1.0,
-            (
-              c.judge-j.auto.table ∙ i.1.1.1.1.0,
-              turn a.bag.now a.table.now a.roll.now a.start c.row_count-n.result c.loop-i.i c.loop-i.answers c.loop-i.table c.loop-i.ledger (omega arith) (omega arith) i.1.1.1.1.1
-                  c.body-case.result.now c.judge-j.result c.judge-j.new.table c.body-case.ensures c.judge-j.ensures.value c.judge-j.ensures.table_after,
-            ),
-          ),
-        ),
-      ),
-    )
+    let l = c.loop-i.invariant in
+    record {
+      first = omega arith;
+      last = omega arith;
+      few = l.few;
+      room = length-set c.loop-i.answers (c.loop-i.i - 1) c.judge-judged.result.answer ∙ l.room;
+      as_long = c.judge-judged.auto.table ∙ l.as_long;
+      before = turn a.bag.now a.table.now a.roll.now a.start c.row_count-n.result c.loop-i.i c.loop-i.answers c.loop-i.table c.loop-i.ledger (omega arith) (omega arith) l.before
+          c.body-case.result.now c.judge-judged.result c.judge-judged.new.table c.body-case.ensures c.judge-judged.ensures.value c.judge-judged.ensures.table_after;
+    }
 
 pub returns : goal.returns
 returns c =
     let a = c.args in
-    let g = c.loop-i.invariant.1.1.1.1.1 in
+    let g = c.loop-i.invariant.before in
     record {
       value = reported a.bag.now a.table.now a.roll.now a.start c.row_count-n.result c.loop-i.i c.loop-i.answers c.loop-i.table c.loop-i.ledger (omega arith) g c.accepted-passed.result c.accepted-passed.ensures;
       table_after = table_left a.bag.now a.table.now a.roll.now a.start c.row_count-n.result c.loop-i.i c.loop-i.answers c.loop-i.table c.loop-i.ledger (omega arith) g;

@@ -6,7 +6,14 @@ use Rattle.bag.proofs.CaseLaws.{Before}
 use Rattle.bag.proofs.judge_cases.Given as goal
 
 abbrev pub invariant-loop-i : goal.invariant-loop-i
-invariant-loop-i l = (1 ≤ l.i) × ((l.i ≤ l.n) × ((l.n ≤ 8) × ((length l.answers ≡ 7) × ((length l.table ≡ length l.initial.table) × Before l.bag l.initial.table l.roll l.initial.ledger l.n l.i l.answers l.table l.ledger))))
+invariant-loop-i l = record {
+  first : 1 ≤ l.i;
+  last : l.i ≤ l.n;
+  few : l.n ≤ 8;
+  room : length l.answers ≡ 7;
+  as_long : length l.table ≡ length l.initial.table;
+  before : Before l.bag l.initial.table l.roll l.initial.ledger l.n l.i l.answers l.table l.ledger;
+}
 
 abbrev pub decreases-loop-i : goal.decreases-loop-i
 decreases-loop-i l = l.n - l.i

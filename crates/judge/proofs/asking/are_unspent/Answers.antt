@@ -11,13 +11,13 @@ pub returns-then-counts-eq0 : goal.returns-then-counts-eq0
 unfolding no8 first spent_rows rows_of among
 returns-then-counts-eq0 c = rw c.if-counts-eq0.true
 
-pub returns-in-At : goal.returns-in-At
-returns-in-At c = first_spent _ _ _ _ c.requires.counts_value c.in-At.row (sym c.in-At.is ∙ c.look_up-one.ensures)
+pub returns-in-Ok : goal.returns-in-Ok
+returns-in-Ok c = first_spent _ _ _ _ c.requires.table_rises c.in-Ok.row (sym c.in-Ok.is ∙ c.look_up.ensures)
 
-pub returns-in-At-two : goal.returns-in-At-two
-returns-in-At-two c =
-    second_spent _ _ _ _ c.requires.counts_value c.in-Gap.field-0 c.in-At-two.row (sym c.in-Gap.is ∙ c.look_up-one.ensures) (sym c.in-At-two.is ∙ c.look_up-two.ensures)
+pub returns-in-Ok-look_up : goal.returns-in-Ok-look_up
+returns-in-Ok-look_up c =
+    second_spent _ _ _ _ c.requires.table_rises c.in_default.field-0 c.in-Ok-look_up.row (sym c.in_default.is ∙ c.look_up.ensures) (sym c.in-Ok-look_up.is ∙ c.look_up-2.ensures)
 
-pub returns-in-Gap-two : goal.returns-in-Gap-two
-returns-in-Gap-two c =
-    none_spent _ _ _ _ c.requires.counts_value c.in-Gap.field-0 c.in-Gap-two.field-0 (sym c.in-Gap.is ∙ c.look_up-one.ensures) (sym c.in-Gap-two.is ∙ c.look_up-two.ensures)
+pub returns-in-Err : goal.returns-in-Err
+returns-in-Err c =
+    none_spent _ _ _ _ c.requires.table_rises c.in_default.field-0 c.in-Err.field-0 (sym c.in_default.is ∙ c.look_up.ensures) (sym c.in-Err.is ∙ c.look_up-2.ensures)

@@ -13,7 +13,7 @@ unfolding spent_rows
 search-requires c =
     record {
       count_in_bounds = search rules;
-      table_value = search rules;
+      table_rises = search rules;
     }
 
 pub returns : goal.returns

@@ -100,7 +100,7 @@ are_unspent-requires c =
     let s = undamaged a.table.now a.roll.now (bare a.counts) (asked_sound a.table.now a.roll.now (bare a.counts) c.in_ok-sound.ensures) in
     record {
       nullifiers_in_bounds = within a.counts.nullifiers most_nullifiers (length a.table.now) s.fits;
-      counts_value = s.rises;
+      table_rises = s.rises;
     }
 
 pub returns-in_err-are_unspent : goal.returns-in_err-are_unspent

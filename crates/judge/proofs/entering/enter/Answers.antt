@@ -14,7 +14,7 @@ enter_two-requires c =
     let a = c.args in
     record {
       count_in_bounds = within (a.ledger.nullifiers + 2) most_nullifiers (length a.table.now) c.requires.room;
-      table_value = c.requires.rises;
+      table_rises = c.requires.rises;
       fresh = c.requires.fresh;
     }
 

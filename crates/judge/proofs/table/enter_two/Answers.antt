@@ -12,8 +12,8 @@ enter_one-requires-2 c =
     let e = c.enter_one.ensures.table_after in
     record {
       count_in_bounds = rw e (second_room a.count a.table.now a.a.now a.b.now c.requires.count_in_bounds long c.requires.fresh);
-      table_value = rw e (second_rising a.count a.table.now a.a.now a.b.now c.requires.count_in_bounds long c.requires.fresh c.requires.table_value);
-      table_value_2 = rw e (second_gap a.count a.table.now a.a.now a.b.now c.requires.count_in_bounds long c.requires.fresh);
+      table_rises = rw e (second_rising a.count a.table.now a.a.now a.b.now c.requires.count_in_bounds long c.requires.fresh c.requires.table_rises);
+      row_is_new = rw e (second_gap a.count a.table.now a.a.now a.b.now c.requires.count_in_bounds long c.requires.fresh);
     }
 
 pub returns : goal.returns

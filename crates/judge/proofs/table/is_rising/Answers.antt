@@ -1,130 +1,64 @@
--- The table rises exactly when its rows from the next one on do. First words hand that on up to a row, and that row and the one after it are compared in full: a pair that does not rise says no, and with no pair left the answer is yes.
-use mathlib.Core.Path.{◌≡◌, sym, ap, ap₂, ◌∙◌}
-use mathlib.Core.Bool.{Bool, true, ◌&&◌, not}
-use mathlib.Core.List.{List}
-use Prim.Native.Nat.{ℕ, ◌+◌, ◌*◌, ◌<◌, ◌≤◌}
+-- The table rises exactly when the rows that are left do. First words hand that on up to a row, and that row and the one after it are compared in full: a pair that does not rise says no, and with no pair left the answer is yes.
+use mathlib.Core.Path.{◌≡◌, refl, sym, ap, ◌∙◌}
+use mathlib.Core.Bool.{Bool, true, false, ◌&&◌}
+use mathlib.Core.List.{List, []}
+use Prim.Native.Nat.{ℕ, ◌-◌, ◌<◌, ◌≤◌}
 use native.Mathlib.Omega.{arith}
-use borrow.Author.Tests.{ltb-true, ltb-false, not-true, not-false}
-use lib.ListN.{take, drop}
-use Rattle.ledger.specs.Sorted.{is_less, rising}
+use lib.ListN.{length, get_or, take, drop, length-drop}
+use lib.Seq.{take_all}
+use Rattle.std.specs.declared.cmp.Ordering.{Ordering}
+use Rattle.std.specs.declared.cmp.Ordering.TheVariants.{Less, Equal, Greater}
+use Rattle.std.specs.Ordering.{is_lt, is_ge}
+use Rattle.ledger.specs.Sorted.{rising}
 use Rattle.ledger.specs.Rows.{byte_order}
-use Rattle.octets.specs.Rows.{rows_of}
 use Rattle.ledger.proofs.ByteOrder.{byte_total}
-use Rattle.ledger.proofs.Sorting.{rising_end}
-use Rattle.ledger.proofs.RowLaws.{rising_turn}
-use Rattle.octets.proofs.RowLaws.{rows_length}
+use Rattle.ledger.proofs.Sorting.{rising_step, rising_end}
 use Rattle.judge.proofs.table.is_rising.Goals as goal
+use Rattle.judge.proofs.table.is_rising.Goals.{else-rest-gt1-via-then-rest-gt1+else-is_ge, else-rest-gt1-via-else-rest-gt1}
 
--- whether the rows from number k on rise
-abbrev from : List ℕ → ℕ → ℕ → Bool
-from table count k = rising byte_order (drop k (rows_of count table))
+-- the first row and the one after it
+pair : (rows : List (List ℕ)) (o : Ordering) → 1 < length rows → o ≡ byte_order (get_or rows 0 []) (get_or rows 1 []) → rising byte_order rows ≡ (is_lt o && rising byte_order (drop 1 rows))
+pair rows o h told = rising_step byte_order byte_total [] rows 0 h ∙ ap (λ (p : Ordering). is_lt p && rising byte_order (drop 1 rows)) (sym told)
 
--- whether the row at index j is below the row at index k
-abbrev below : List ℕ → ℕ → ℕ → Bool
-below t j k = is_less (byte_order (take 32 (drop j t)) (take 32 (drop k t)))
+falls : (o : Ordering) (b : Bool) → is_ge o ≡ true → (is_lt o && b) ≡ false
+falls Less b h = cc
+falls Equal b h = refl
+falls Greater b h = refl
 
--- with at most one row left the rows rise
-ended : (t : List ℕ) (n k : ℕ) → n ≤ k + 1 → from t n k ≡ true
-ended t n k h = rising_end byte_order byte_total (rows_of n t) k (omega (arith, rows_length n t))
+climbs : (o : Ordering) (b : Bool) → is_ge o ≡ false → (is_lt o && b) ≡ b
+climbs Less b h = refl
+climbs Equal b h = cc
+climbs Greater b h = cc
 
-pub loop-next-init : goal.loop-next-init
-loop-next-init c = let a = c.args in ap (from a.table.now a.count) (sym c.of-next.ensures)
+-- with at most one row the rows rise
+ended : (rows : List (List ℕ)) → length rows ≤ 1 → rising byte_order rows ≡ true
+ended rows h = rising_end byte_order byte_total rows 0 h
 
-pub rises_to-low-requires : goal.rises_to-low-requires
-rises_to-low-requires c =
-    let within : c.loop-next.next.0 < c.args.count = ltb-true _ _ (sym c.is_within.ensures ∙ c.loop-next-test.true) in
-    (within, c.requires)
+-- what is left behind the first row
+behind : (rows : List (List ℕ)) → 0 < length rows → take (length rows - 1) (drop 1 rows) ≡ drop 1 rows
+behind rows h = take_all (length rows - 1) (drop 1 rows) (omega (arith, length-drop 1 rows))
 
-pub start_of-requires : goal.start_of-requires
-start_of-requires c =
-    let low : ℕ = c.rises_to-low.result.0 in
-    let after : c.next-next.result.0 ≡ low + 1 = omega arith in
-    let both : low + 1 < c.args.count = let h : c.next-next.result.0 < c.args.count = ltb-true _ _ (sym c.is_within-in-loop-next.ensures ∙ c.if-is_within.true) in
-    omega (arith, h, after) in
-    omega (arith, both)
+pub returns-then-is_ge : goal.returns-then-is_ge
+returns-then-is_ge c =
+    let rows = c.rises_to-rest.result.now in
+    let o = c.compare.result in
+    sym
+    (c.loop-rest.invariant ∙ sym c.rises_to-rest.ensures.rises ∙ pair rows o c.if-rest-gt1.true c.compare.ensures
+    ∙ falls o (rising byte_order (drop 1 rows)) (sym c.is_ge.ensures ∙ c.if-is_ge.true))
 
-pub start_of-requires-then-is_within : goal.start_of-requires-then-is_within
-start_of-requires-then-is_within c =
-    let low : ℕ = c.rises_to-low.result.0 in
-    let after : c.next-next.result.0 ≡ low + 1 = omega arith in
-    let both : low + 1 < c.args.count = let h : c.next-next.result.0 < c.args.count = ltb-true _ _ (sym c.is_within-in-loop-next.ensures ∙ c.if-is_within.true) in
-    omega (arith, h, after) in
-    omega (arith, both, after)
-
-pub is_below-rises-requires : goal.is_below-rises-requires
-is_below-rises-requires c =
-    let low : ℕ = c.rises_to-low.result.0 in
-    let after : c.next-next.result.0 ≡ low + 1 = omega arith in
-    let both : low + 1 < c.args.count = let h : c.next-next.result.0 < c.args.count = ltb-true _ _ (sym c.is_within-in-loop-next.ensures ∙ c.if-is_within.true) in
-    omega (arith, h, after) in
-    record {
-      i_in_bounds = omega (arith, both);
-      j_in_bounds = omega (arith, both, after);
-    }
-
-pub returns-then-not-rises : goal.returns-then-not-rises
-returns-then-not-rises c =
-    let low : ℕ = c.rises_to-low.result.0 in
-    let after : c.next-next.result.0 ≡ low + 1 = omega arith in
-    let both : low + 1 < c.args.count = let h : c.next-next.result.0 < c.args.count = ltb-true _ _ (sym c.is_within-in-loop-next.ensures ∙ c.if-is_within.true) in
-    omega (arith, h, after) in
-    let reached : let a = c.args in
-    rising byte_order (rows_of a.count a.table.now) ≡ from a.table.now a.count (low) = c.loop-next.invariant ∙ c.rises_to-low.ensures.table_value in
-    let turn : let a = c.args in
-    rising byte_order (rows_of a.count a.table.now) ≡ (c.is_below-rises.result && from a.table.now a.count (low + 1)) = let a = c.args in
-    let f : c.is_below-rises.result ≡ below a.table.now c.start_of.result c.start_of-then-is_within.result = c.is_below-rises.ensures in
-    let told = f ∙ ap₂ (below a.table.now) c.start_of.ensures (c.start_of-then-is_within.ensures ∙ ap (λ (k : ℕ). k * 32) (after)) in
-    reached ∙ rising_turn a.count (low) a.table.now (both)
-    ∙ ap (λ (b : Bool). b && from a.table.now a.count (low + 1)) (sym told) in
-    sym (turn ∙ rw (not-true c.is_below-rises.result (ap not c.if-not-rises.true)))
-
-pub loop-next-smaller-else-not-rises : goal.loop-next-smaller-else-not-rises
-loop-next-smaller-else-not-rises c =
-    let low : ℕ = c.rises_to-low.result.0 in
-    let after : c.next-next.result.0 ≡ low + 1 = omega arith in
-    let both : low + 1 < c.args.count = let h : c.next-next.result.0 < c.args.count = ltb-true _ _ (sym c.is_within-in-loop-next.ensures ∙ c.if-is_within.true) in
-    omega (arith, h, after) in
-    omega (arith, both, after)
-
-pub loop-next-preserved-else-not-rises : goal.loop-next-preserved-else-not-rises
-loop-next-preserved-else-not-rises c =
-    let low : ℕ = c.rises_to-low.result.0 in
-    let after : c.next-next.result.0 ≡ low + 1 = omega arith in
-    let both : low + 1 < c.args.count = let h : c.next-next.result.0 < c.args.count = ltb-true _ _ (sym c.is_within-in-loop-next.ensures ∙ c.if-is_within.true) in
-    omega (arith, h, after) in
-    let reached : let a = c.args in
-    rising byte_order (rows_of a.count a.table.now) ≡ from a.table.now a.count (low) = c.loop-next.invariant ∙ c.rises_to-low.ensures.table_value in
-    let turn : let a = c.args in
-    rising byte_order (rows_of a.count a.table.now) ≡ (c.is_below-rises.result && from a.table.now a.count (low + 1)) = let a = c.args in
-    let f : c.is_below-rises.result ≡ below a.table.now c.start_of.result c.start_of-then-is_within.result = c.is_below-rises.ensures in
-    let told = f ∙ ap₂ (below a.table.now) c.start_of.ensures (c.start_of-then-is_within.ensures ∙ ap (λ (k : ℕ). k * 32) (after)) in
-    reached ∙ rising_turn a.count (low) a.table.now (both)
-    ∙ ap (λ (b : Bool). b && from a.table.now a.count (low + 1)) (sym told) in
-    let a = c.args in
-    turn ∙ rw (not-false c.is_below-rises.result (ap not c.if-not-rises.false)) (ap (from a.table.now a.count) (sym (after)))
-
-pub loop-next-smaller : goal.loop-next-smaller
-loop-next-smaller c =
-    let within : c.loop-next.next.0 < c.args.count = ltb-true _ _ (sym c.is_within.ensures ∙ c.loop-next-test.true) in
-    let low : ℕ = c.rises_to-low.result.0 in
-    let after : c.next-next.result.0 ≡ low + 1 = omega arith in
-    let last : c.args.count ≤ low + 1 = let h : c.args.count ≤ c.next-next.result.0 = ltb-false _ _ (sym c.is_within-in-loop-next.ensures ∙ c.if-is_within.false) in
-    omega (arith, h, after) in
-    omega (arith, last, after, within)
-
-pub loop-next-preserved : goal.loop-next-preserved
-loop-next-preserved c =
-    let low : ℕ = c.rises_to-low.result.0 in
-    let after : c.next-next.result.0 ≡ low + 1 = omega arith in
-    let reached : let a = c.args in
-    rising byte_order (rows_of a.count a.table.now) ≡ from a.table.now a.count (low) = c.loop-next.invariant ∙ c.rises_to-low.ensures.table_value in
-    let last : c.args.count ≤ low + 1 = let h : c.args.count ≤ c.next-next.result.0 = ltb-false _ _ (sym c.is_within-in-loop-next.ensures ∙ c.if-is_within.false) in
-    omega (arith, h, after) in
-    let a = c.args in
-    reached ∙ ended a.table.now a.count (low) (last) ∙ sym (ended a.table.now a.count c.next-next.result.0 (omega (arith, last, after)))
+pub loop-rest-preserved : goal.loop-rest-preserved
+loop-rest-preserved c =
+    let rows = c.rises_to-rest.result.now in
+    let e = c.rises_to-rest.ensures in
+    let long = length-drop 1 rows in
+    let so_far = c.loop-rest.invariant ∙ sym e.rises in
+    rw (behind rows e.some_left)
+    (elim c.else-rest-gt1.branch [
+      | else-rest-gt1-via-then-rest-gt1+else-is_ge w ↦
+          so_far ∙ pair rows w.compare.result w.if-rest-gt1.true w.compare.ensures
+          ∙ climbs w.compare.result (rising byte_order (drop 1 rows)) (sym w.is_ge.ensures ∙ w.if-is_ge.false)
+      | else-rest-gt1-via-else-rest-gt1 w ↦ so_far ∙ ended rows w.if-rest-gt1.false ∙ sym (ended (drop 1 rows) (omega arith))
+    ])
 
 pub returns : goal.returns
-returns c =
-    let a = c.args in
-    let past : a.count ≤ c.loop-next.next.0 = ltb-false _ _ (sym c.is_within.ensures ∙ c.loop-next-test.false) in
-    sym (c.loop-next.invariant ∙ ended a.table.now a.count c.loop-next.next.0 (omega arith))
+returns c = sym (c.loop-rest.invariant ∙ ended c.loop-rest.rest.now c.loop-rest-test.false)

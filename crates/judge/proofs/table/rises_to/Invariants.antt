@@ -1,13 +1,10 @@
--- The rows from the first one on rise exactly if those from the row held on do; the word held is that row's first one, and eight words that each are above the one before hand it on to the eighth row after.
-use mathlib.Core.Path.{◌≡◌}
-use Prim.Native.Nat.{◌-◌}
-use lib.ListN.{take, drop}
-use Rattle.octets.specs.Numbers.{big}
+-- All rows rise exactly if those that are left do; the word held is the first one of their first row, and eight words that each are above the one before hand it on to the eighth row after.
+use lib.ListN.{length}
 use Rattle.judge.proofs.HeldRow.{Held}
 use Rattle.judge.proofs.table.rises_to.Given as goal
 
-abbrev pub invariant-loop-at : goal.invariant-loop-at
-invariant-loop-at l = Held l.table l.count l.initial.at l.at × (l.before ≡ big (take 8 (drop l.at l.table)))
+abbrev pub invariant-loop-rest : goal.invariant-loop-rest
+invariant-loop-rest l = Held l.rows l.rest l.before
 
-abbrev pub decreases-loop-at : goal.decreases-loop-at
-decreases-loop-at l = l.end - l.at
+abbrev pub decreases-loop-rest : goal.decreases-loop-rest
+decreases-loop-rest l = length l.rest

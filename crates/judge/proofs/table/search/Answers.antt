@@ -1,131 +1,68 @@
 -- The row looked for is above the one just before low and below the one at high, and the table rises: so it can stand only between, and once nothing is between, it goes to low.
 -- The measure is not the rows between but the binary digits of their number. Each turn takes off one at least, which bounds the comparisons.
-use mathlib.Core.Path.{◌≡◌, sym, ap₂, ◌∙◌}
-use mathlib.Core.List.{List}
-use Prim.Native.Nat.{ℕ, suc, ◌-◌, ◌/◌, ◌<◌, ◌≤◌}
+use mathlib.Core.Path.{◌≡◌, sym, ◌∙◌}
+use mathlib.Core.List.{List, []}
+use Prim.Native.Nat.{ℕ, suc, ◌+◌, ◌-◌, ◌/◌, ◌<◌, ◌≤◌}
 use native.Mathlib.Omega.{arith}
-use borrow.Author.Tests.{ltb-true, ltb-false}
-use lib.ListN.{take, drop}
-use lib.Seq.{take_all}
-use Rattle.ledger.specs.Rows.{byte_order, row_at}
-use Rattle.ledger.proofs.RowLaws.{stands_at, goes_at}
+use lib.ListN.{length, get_or}
+use Rattle.std.specs.declared.cmp.Ordering.TheVariants.{Less, Equal, Greater}
+use Rattle.std.specs.Prelude.{true, Ok, Err}
+use Rattle.units.specs.declared.Row.{Row}
+use Rattle.ledger.specs.Sorted.{rising, find}
+use Rattle.ledger.specs.Rows.{byte_order}
+use Rattle.ledger.proofs.ByteOrder.{byte_total}
+use Rattle.ledger.proofs.Sorting.{find_at, find_gap}
 use Rattle.judge.proofs.Spans.{half_is_shorter}
-use borrow.Author.Rules.{rules}
 use Rattle.judge.proofs.table.search.Goals as goal
 
-pub loop-high-init : goal.loop-high-init
-loop-high-init c = (omega arith, omega arith, (λ j e. absurd (omega arith)), (λ h. absurd (omega arith)))
+-- the row half way: at most half of the rows are left on either side of it
+half_way : (low high : ℕ) → low < high
+    → (low ≤ low + (high - low) / 2) × (low + (high - low) / 2 < high) × (low + (high - low) / 2 - low ≤ (high - low) / 2)
+    × (high - (low + (high - low) / 2 + 1) ≤ (high - low) / 2)
+half_way low high h = (omega arith, omega arith, omega arith, omega arith)
 
-pub middle-mid-requires : goal.middle-mid-requires
-middle-mid-requires c =
-    let some_left : c.loop-high.low.0 < c.loop-high.high.0 = let h : c.loop-high.low.0 < c.index.result = ltb-true _ _ (sym c.is_within.ensures ∙ c.loop-high-test.true) in
-    omega (arith, c.index.ensures) in
-    omega (arith, some_left)
+-- a row that is equal to the one looked for, and a place between two rows that are not
+stands : (rows : List (List ℕ)) (x : List ℕ) (r : Row) (k : ℕ) → r.0 ≡ k → rising byte_order rows ≡ true → k < length rows
+    → byte_order x (get_or rows k []) ≡ Equal → Ok r ≡ find byte_order x rows
+stands rows x r k e rises used equal = sym (find_at byte_order byte_total x [] rows r.0 rises (rw e used) (rw e equal))
 
-pub start_of-requires : goal.start_of-requires
-start_of-requires c =
-    let some_left : c.loop-high.low.0 < c.loop-high.high.0 = let h : c.loop-high.low.0 < c.index.result = ltb-true _ _ (sym c.is_within.ensures ∙ c.loop-high-test.true) in
-    omega (arith, c.index.ensures) in
-    let half_way : let low = c.loop-high.low.0 in
-    let high = c.loop-high.high.0 in
-    let mid = c.middle-mid.result.0 in
-    (low ≤ mid) × (mid < high) × (mid - low ≤ (high - low) / 2) × (high - suc mid ≤ (high - low) / 2) = let h = some_left in
-    let e = c.middle-mid.ensures in
-    (omega arith, omega arith, omega arith, omega arith) in
-    omega (arith, (half_way).1)
+goes : (rows : List (List ℕ)) (x : List ℕ) (r : Row) (k : ℕ) → r.0 ≡ k → rising byte_order rows ≡ true → k ≤ length rows
+    → ((j : ℕ) → suc j ≡ k → byte_order x (get_or rows j []) ≡ Greater) → (k < length rows → byte_order x (get_or rows k []) ≡ Less)
+    → Err r ≡ find byte_order x rows
+goes rows x r k e rises within above below = sym (find_gap byte_order byte_total x [] rows r.0 rises (rw e within) (rw e above) (rw e below))
 
-pub compare-o-requires : goal.compare-o-requires
-compare-o-requires c =
-    let some_left : c.loop-high.low.0 < c.loop-high.high.0 = let h : c.loop-high.low.0 < c.index.result = ltb-true _ _ (sym c.is_within.ensures ∙ c.loop-high-test.true) in
-    omega (arith, c.index.ensures) in
-    let half_way : let low = c.loop-high.low.0 in
-    let high = c.loop-high.high.0 in
-    let mid = c.middle-mid.result.0 in
-    (low ≤ mid) × (mid < high) × (mid - low ≤ (high - low) / 2) × (high - suc mid ≤ (high - low) / 2) = let h = some_left in
-    let e = c.middle-mid.ensures in
-    (omega arith, omega arith, omega arith, omega arith) in
-    record {
-      i_in_bounds = search rules;
-      j_in_bounds = omega (arith, (half_way).1);
-    }
+pub bounds-rows-mid : goal.bounds-rows-mid
+bounds-rows-mid c =
+    let l = c.loop-low in
+    let in_table = l.invariant.in_table in
+    let below : l.low + (l.high - l.low) / 2 < l.high = (half_way l.low l.high c.loop-low-test.true).1 in
+    omega (arith, c.rows_in-rows.ensures.len)
 
-pub loop-high-smaller-in-Less : goal.loop-high-smaller-in-Less
-loop-high-smaller-in-Less c =
-    let some_left : c.loop-high.low.0 < c.loop-high.high.0 = let h : c.loop-high.low.0 < c.index.result = ltb-true _ _ (sym c.is_within.ensures ∙ c.loop-high-test.true) in
-    omega (arith, c.index.ensures) in
-    let half_way : let low = c.loop-high.low.0 in
-    let high = c.loop-high.high.0 in
-    let mid = c.middle-mid.result.0 in
-    (low ≤ mid) × (mid < high) × (mid - low ≤ (high - low) / 2) × (high - suc mid ≤ (high - low) / 2) = let h = some_left in
-    let e = c.middle-mid.ensures in
-    (omega arith, omega arith, omega arith, omega arith) in
-    half_is_shorter _ _ (omega (arith, some_left)) (half_way).2
-
-pub loop-high-preserved-in-Less : goal.loop-high-preserved-in-Less
-loop-high-preserved-in-Less c =
-    let some_left : c.loop-high.low.0 < c.loop-high.high.0 = let h : c.loop-high.low.0 < c.index.result = ltb-true _ _ (sym c.is_within.ensures ∙ c.loop-high-test.true) in
-    omega (arith, c.index.ensures) in
-    let half_way : let low = c.loop-high.low.0 in
-    let high = c.loop-high.high.0 in
-    let mid = c.middle-mid.result.0 in
-    (low ≤ mid) × (mid < high) × (mid - low ≤ (high - low) / 2) × (high - suc mid ≤ (high - low) / 2) = let h = some_left in
-    let e = c.middle-mid.ensures in
-    (omega arith, omega arith, omega arith, omega arith) in
-    let told : let a = c.args in
-    c.compare-o.result ≡ byte_order a.row.now (row_at a.table.now c.middle-mid.result.0) = let a = c.args in
-    let e : c.compare-o.result ≡ byte_order (take 32 a.row.now) (take 32 (drop c.start_of.result a.table.now)) = c.compare-o.ensures in
-    e ∙ ap₂ (λ (r : List ℕ) (k : ℕ). byte_order r (take 32 (drop k a.table.now))) (take_all 32 a.row.now (omega (arith, c.compare-arg-1.given))) c.start_of.ensures in
-    ((half_way).0, omega (arith, (half_way).1), c.loop-high.invariant.2, (λ h. sym (told) ∙ c.in-Less.is))
+pub loop-low-smaller-in-Less : goal.loop-low-smaller-in-Less
+loop-low-smaller-in-Less c =
+    let l = c.loop-low in
+    half_is_shorter _ _ (omega arith) (half_way l.low l.high c.loop-low-test.true).2
 
 pub returns-in-Equal : goal.returns-in-Equal
 returns-in-Equal c =
-    let some_left : c.loop-high.low.0 < c.loop-high.high.0 = let h : c.loop-high.low.0 < c.index.result = ltb-true _ _ (sym c.is_within.ensures ∙ c.loop-high-test.true) in
-    omega (arith, c.index.ensures) in
-    let half_way : let low = c.loop-high.low.0 in
-    let high = c.loop-high.high.0 in
-    let mid = c.middle-mid.result.0 in
-    (low ≤ mid) × (mid < high) × (mid - low ≤ (high - low) / 2) × (high - suc mid ≤ (high - low) / 2) = let h = some_left in
-    let e = c.middle-mid.ensures in
-    (omega arith, omega arith, omega arith, omega arith) in
-    let told : let a = c.args in
-    c.compare-o.result ≡ byte_order a.row.now (row_at a.table.now c.middle-mid.result.0) = let a = c.args in
-    let e : c.compare-o.result ≡ byte_order (take 32 a.row.now) (take 32 (drop c.start_of.result a.table.now)) = c.compare-o.ensures in
-    e ∙ ap₂ (λ (r : List ℕ) (k : ℕ). byte_order r (take 32 (drop k a.table.now))) (take_all 32 a.row.now (omega (arith, c.compare-arg-1.given))) c.start_of.ensures in
-    let a = c.args in
-    stands_at a.count c.middle-mid.result.0 a.table.now a.row.now c.requires.table_value (omega (arith, (half_way).1)) (sym (told) ∙ c.in-Equal.is)
+    let rows = c.rows_in-rows in
+    let l = c.loop-low in
+    let in_table = l.invariant.in_table in
+    let below : l.low + (l.high - l.low) / 2 < l.high = (half_way l.low l.high c.loop-low-test.true).1 in
+    rw (← rows.ensures.rows)
+    (stands rows.result.now c.args.row.now c.of.result (l.low + (l.high - l.low) / 2) c.of.ensures (rw rows.ensures.rows c.requires.table_rises) (omega (arith, rows.ensures.len)) (sym c.compare.ensures ∙ c.in-Equal.is))
 
-pub loop-high-smaller : goal.loop-high-smaller
-loop-high-smaller c =
-    let some_left : c.loop-high.low.0 < c.loop-high.high.0 = let h : c.loop-high.low.0 < c.index.result = ltb-true _ _ (sym c.is_within.ensures ∙ c.loop-high-test.true) in
-    omega (arith, c.index.ensures) in
-    let half_way : let low = c.loop-high.low.0 in
-    let high = c.loop-high.high.0 in
-    let mid = c.middle-mid.result.0 in
-    (low ≤ mid) × (mid < high) × (mid - low ≤ (high - low) / 2) × (high - suc mid ≤ (high - low) / 2) = let h = some_left in
-    let e = c.middle-mid.ensures in
-    (omega arith, omega arith, omega arith, omega arith) in
-    half_is_shorter _ _ (omega (arith, some_left)) (omega (arith, (half_way).1, (half_way).3, c.next-low.ensures))
-
-pub loop-high-preserved : goal.loop-high-preserved
-loop-high-preserved c =
-    let some_left : c.loop-high.low.0 < c.loop-high.high.0 = let h : c.loop-high.low.0 < c.index.result = ltb-true _ _ (sym c.is_within.ensures ∙ c.loop-high-test.true) in
-    omega (arith, c.index.ensures) in
-    let half_way : let low = c.loop-high.low.0 in
-    let high = c.loop-high.high.0 in
-    let mid = c.middle-mid.result.0 in
-    (low ≤ mid) × (mid < high) × (mid - low ≤ (high - low) / 2) × (high - suc mid ≤ (high - low) / 2) = let h = some_left in
-    let e = c.middle-mid.ensures in
-    (omega arith, omega arith, omega arith, omega arith) in
-    let told : let a = c.args in
-    c.compare-o.result ≡ byte_order a.row.now (row_at a.table.now c.middle-mid.result.0) = let a = c.args in
-    let e : c.compare-o.result ≡ byte_order (take 32 a.row.now) (take 32 (drop c.start_of.result a.table.now)) = c.compare-o.ensures in
-    e ∙ ap₂ (λ (r : List ℕ) (k : ℕ). byte_order r (take 32 (drop k a.table.now))) (take_all 32 a.row.now (omega (arith, c.compare-arg-1.given))) c.start_of.ensures in
-    let e = sym (told) ∙ c.in-Greater.is in
-    (omega (arith, (half_way).1, c.next-low.ensures), c.loop-high.invariant.1, (λ j h. let k : j ≡ c.middle-mid.result.0 = omega (arith, (half_way).1, c.next-low.ensures) in rw k e), c.loop-high.invariant.3)
+pub loop-low-smaller : goal.loop-low-smaller
+loop-low-smaller c =
+    let l = c.loop-low in
+    half_is_shorter _ _ (omega arith) (half_way l.low l.high c.loop-low-test.true).3
 
 pub returns : goal.returns
 returns c =
-    let a = c.args in
-    let past : c.index.result ≤ c.loop-high.low.0 = ltb-false _ _ (sym c.is_within.ensures ∙ c.loop-high-test.false) in
-    let k : c.loop-high.high.0 ≡ c.loop-high.low.0 = omega (arith, c.index.ensures, c.loop-high.invariant.0) in
-    goes_at a.count c.loop-high.low.0 a.table.now a.row.now c.requires.table_value (omega (arith, c.loop-high.invariant.1)) c.loop-high.invariant.2 (rw (← k) c.loop-high.invariant.3)
+    let rows = c.rows_in-rows in
+    let l = c.loop-low in
+    let same : l.high ≡ l.low = omega (arith, l.invariant.in_order) in
+    let within : l.low ≤ length rows.result.now = omega (arith, l.invariant.in_table, rows.ensures.len) in
+    rw (← rows.ensures.rows)
+    (goes rows.result.now c.args.row.now c.of-2.result l.low c.of-2.ensures (rw rows.ensures.rows c.requires.table_rises) within l.invariant.above
+    (λ h. let used : l.high < c.args.count = omega (arith, rows.ensures.len) in rw same at (l.invariant.below used)))

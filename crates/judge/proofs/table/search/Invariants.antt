@@ -1,16 +1,21 @@
 -- The row looked for is above the one just before low and below the one at high, and the table rises: so it can stand only between, and once nothing is between, it goes to low.
 -- The measure is not the rows between but the binary digits of their number. Each turn takes off one at least, which bounds the comparisons.
 use mathlib.Core.Path.{◌≡◌}
+use mathlib.Core.List.{[]}
 use Prim.Native.Nat.{ℕ, suc, ◌-◌, ◌<◌, ◌≤◌}
 use lib.Ieee.{size}
-use Rattle.ledger.specs.Rows.{byte_order, row_at}
-use Rattle.ledger.specs.declared.Order.TheVariants.{Less, Greater}
+use lib.ListN.{get_or}
+use Rattle.std.specs.declared.cmp.Ordering.TheVariants.{Less, Greater}
+use Rattle.ledger.specs.Rows.{byte_order}
 use Rattle.judge.proofs.table.search.Given as goal
 
-abbrev pub invariant-loop-high : goal.invariant-loop-high
-invariant-loop-high l = (l.low.0 ≤ l.high.0) × (l.high.0 ≤ l.count)
-    × ((j : ℕ) → suc j ≡ l.low.0 → byte_order l.row (row_at l.table j) ≡ Greater)
-    × (l.high.0 < l.count → byte_order l.row (row_at l.table l.high.0) ≡ Less)
+abbrev pub invariant-loop-low : goal.invariant-loop-low
+invariant-loop-low l = record {
+  in_order : l.low ≤ l.high;
+  in_table : l.high ≤ l.count;
+  above : (j : ℕ) → suc j ≡ l.low → byte_order l.row (get_or l.rows j []) ≡ Greater;
+  below : l.high < l.count → byte_order l.row (get_or l.rows l.high []) ≡ Less;
+}
 
-abbrev pub decreases-loop-high : goal.decreases-loop-high
-decreases-loop-high l = size (l.high.0 - l.low.0)
+abbrev pub decreases-loop-low : goal.decreases-loop-low
+decreases-loop-low l = size (l.high - l.low)

@@ -1,26 +1,19 @@
-use mathlib.Core.Path.{ap, ◌∙◌}
+use mathlib.Core.Path.{◌≡◌}
 use mathlib.Core.List.{List}
-use Prim.Native.Nat.{ℕ, ◌+◌}
+use Prim.Native.Nat.{ℕ, ◌+◌, ◌-◌, ◌≤◌}
 use native.Mathlib.Omega.{arith}
-use lib.ListN.{length}
-use Rattle.octets.specs.Parts.{pasted}
-use Rattle.octets.proofs.PartLaws.{field_length}
-use Rattle.ledger.proofs.RowLaws.{shifted_block}
+use borrow.Rule.Slice.PartMut.{put_mid}
+use lib.ListN.{length, take, drop}
+use Rattle.std.specs.List.{copy_within}
+use Rattle.ledger.specs.Rows.{shifted}
+use Rattle.ledger.proofs.RowLaws.{shifted_four}
 use Rattle.judge.proofs.table.shift_four.Goals as goal
 
-pub four_rows-rows-requires : goal.four_rows-rows-requires
-four_rows-rows-requires c = omega arith
-
-pub overflow_add-at : goal.overflow_add-at
-overflow_add-at c = omega arith
-
-pub put_four_rows-requires : goal.put_four_rows-requires
-put_four_rows-requires c =
-    let a = c.args in
-    (omega arith, ap length c.four_rows-rows.ensures ∙ field_length a.at 128 a.table.now)
+-- the part that is lent has 160 bytes
+lent : (t u : List ℕ) (at : ℕ) → at + 160 ≤ length t → u ≡ copy_within (take (at + 160 - at) (drop at t)) 0 128 32 → put_mid at (at + 160 - at) t u ≡ shifted t at (at + 128)
+lent t u at room e =
+    let k : at + 160 - at ≡ 160 = omega arith in
+    rw (e, k) (shifted_four t at room)
 
 pub returns : goal.returns
-returns c =
-    let a = c.args in
-    c.put_four_rows.ensures ∙ ap (λ (s : List ℕ). pasted (a.at + 32) s a.table.now) c.four_rows-rows.ensures
-    ∙ shifted_block a.table.now a.at 128 (omega arith)
+returns c = let a = c.args in lent a.table.now c.copy_within.new.self a.at c.requires c.copy_within.ensures.after

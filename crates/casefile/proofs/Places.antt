@@ -1,15 +1,15 @@
 -- Where readers and writers find a field: those of a pair, said for both at once, and those behind the proof, said over its length.
 -- Assumes nothing.
-use Prim.Native.Nat.{ℕ, ◌+◌, ◌-◌, ◌<◌, ◌≤◌}
+use Prim.Native.Nat.{ℕ, ◌+◌, ◌≤◌, min}
+use native.Mathlib.Decide.{dec_le}
 use mathlib.Core.Path.{◌≡◌, refl, sym, ap, ◌∙◌}
 use mathlib.Core.Bool.{Bool, true}
 use mathlib.Core.List.{List}
-use native.Mathlib.Nat.{le_of_lt, le_of_eq}
 use native.Mathlib.Omega.{arith}
 use borrow.Author.Tests.{leb-true}
 use lib.Dec.{leb}
-use lib.ListN.{length, get_or, take, drop, length-drop, drop_of_length-le}
-use lib.Seq.{take-nil, take_all}
+use lib.ListN.{length, get_or, take, drop}
+use lib.Seq.{take_all}
 use Rattle.octets.specs.Parts.{field, fits_in, pasted}
 use Rattle.units.specs.declared.Which.{Which}
 use Rattle.units.specs.declared.Which.TheVariants.{First, Second}
@@ -72,19 +72,15 @@ pub put_behind : (k start n : ℕ) (b c : List ℕ) → Behind k start n → (at
     → (ok ≡ has_place k b c) × (d ≡ put_part k b c)
 put_behind k start n b c f at e = put_at k b c at (e ∙ starts_at k start n (proof_length c) f)
 
--- the bytes of a part that some bytes have: none, some, or all of them
-module _ (c : List ℕ) (at n : ℕ) where
-  pub none_present : length c < at → take (length c - length c) (drop (length c) c) ≡ take n (drop at c)
-  none_present h = let e : length c - length c ≡ 0 = omega arith in rw (e, drop_of_length-le c (le_of_lt h)) (sym (take-nil n))
-
-  pub some_present : length c < at + n → take (length c - at) (drop at c) ≡ take n (drop at c)
-  some_present h =
-      let l : length (drop at c) ≤ length c - at = le_of_eq (length-drop at c) in
-      let m : length (drop at c) ≤ n = omega (arith, length-drop at c) in
-      take_all (length c - at) (drop at c) l ∙ sym (take_all n (drop at c) m)
-
-  pub all_present : take (at + n - at) (drop at c) ≡ take n (drop at c)
-  all_present = let e : at + n - at ≡ n = omega arith in rw e
+-- as much of a list as there is of n elements
+pub take_up_to : (n : ℕ) (s : List ℕ) → take (min (length s) n) s ≡ take n s
+take_up_to n s = go (dec_le n (length s))
+  where
+    go : Dec (n ≤ length s) → take (min (length s) n) s ≡ take n s
+    go (yes h) =
+        let e : min (length s) n ≡ n = omega arith in
+        ap (λ (k : ℕ). take k s) e
+    go (no h) = take_all (min (length s) n) s (omega arith) ∙ sym (take_all n s (omega arith))
 
 -- the path of an old note
 pub path_part : (c : List ℕ) (i : Which) (at : ℕ) → at ≡ proof_length c + of_pair i 1678 (1678 + 1068) → take 928 (drop at c) ≡ present_of (of_old (number_of i) 6) c

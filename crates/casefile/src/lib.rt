@@ -183,15 +183,8 @@ pub fn old_position(case: &[u8], i: Which) -> Position
 pub fn old_path<'a>(case: &'a [u8], i: Which) -> &'a [u8]
     ensures { result.now ≡ present_of (of_old (number_of i) 6) case.now }
 {
-    let n = case.len();
-    let start = old_at(case, i, 140);
-    if n < start {
-        return &case[n..n];
-    }
-    if n - start < 928 {
-        return &case[start..n];
-    }
-    &case[start..start + 928]
+    let rest = case.get(old_at(case, i, 140)..).unwrap_or(&[]);
+    &rest[..rest.len().min(928)]
 }
 
 pub fn new_address(case: &[u8], i: Which) -> [u8; 32]

@@ -1,7 +1,7 @@
 -- The pieces that the calls write are the lines of the definitions; and a day, one entry more at a time.
 -- Assumes nothing.
 use Prim.Native.Nat.{ℕ, zero, suc, ◌+◌, ◌*◌, ◌≤◌, ◌<◌}
-use mathlib.Core.Path.{◌≡◌, refl, ap, ◌∙◌}
+use mathlib.Core.Path.{◌≡◌, refl, ap, ap₂, ◌∙◌}
 use mathlib.Core.Bool.{Bool, true, false}
 use mathlib.Core.List.{List, [], ◌∷◌, ◌++◌, append_assoc, flat_map}
 use native.Mathlib.Numerals.{add-one}
@@ -14,11 +14,10 @@ use Rattle.text.specs.Pen.{Pen, Wrote}
 use Rattle.text.proofs.PenLaws.{start, then, text_as}
 use Rattle.books.specs.declared.DayRow.{DayRow}
 use Rattle.books.specs.declared.Tally.{Tally}
-use Rattle.books.specs.declared.Tallied.{Tallied}
 use Rattle.books.specs.DayList.{is_on, with_day_row}
-use Rattle.books.specs.Tally.{tally_of}
+use Rattle.books.specs.Tally.{Tallied, tally_of}
 use Rattle.day.specs.declared.Entry.{Entry}
-use Rattle.day.specs.Lines.{three_line, day_row_line, yes_or_no, enter_line, tally_line, count_line, is_pass, day_lines, last_entry, entries, both_lines}
+use Rattle.day.specs.Lines.{counted, three_line, day_row_line, yes_or_no, enter_line, tally_line, count_line, is_pass, day_lines, last_entry, entries, both_lines}
 
 pub three_as : (word : List ℕ) (a b c : ℕ) → word ++ ((ascii " " ++ decimal a) ++ ((ascii " " ++ decimal b) ++ ((ascii " " ++ decimal c) ++ ascii "\n"))) ≡ three_line word a b c
 unfolding three_line
@@ -85,6 +84,10 @@ no_more {es = es} {i = i} {rows = rows} {t = t} h s f g =
 pub entries_seven : length entries ≡ 7
 unfolding entries
 entries_seven = refl
+
+-- what counting in place answers and leaves, as one
+pub both_parts : {ok : Bool} {t : Tally} (c : Tallied) → (ok ≡ c.ok) × (t ≡ c.tally) → counted ok t ≡ c
+both_parts c e = ap₂ counted e.0 e.1
 
 -- a pass and then a refusal
 pub both_as : (t : Tally) {c d : Tallied} → c ≡ tally_of t true → d ≡ tally_of c.tally false → count_line c ++ count_line d ≡ both_lines t

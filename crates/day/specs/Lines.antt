@@ -6,10 +6,9 @@ use Rattle.text.specs.Words.{ascii}
 use Rattle.text.specs.Decimal.{decimal}
 use Rattle.books.specs.declared.DayRow.{DayRow}
 use Rattle.books.specs.declared.Tally.{Tally}
-use Rattle.books.specs.declared.Tallied.{Tallied}
 use Rattle.books.specs.DayList.{is_on, with_day_row}
 use Rattle.books.specs.History.{empty}
-use Rattle.books.specs.Tally.{tally_of}
+use Rattle.books.specs.Tally.{Tallied, tally_of}
 use Rattle.day.specs.declared.Entry.{Entry}
 
 abbrev pub row_with : ℕ → ℕ → ℕ → DayRow
@@ -17,6 +16,9 @@ row_with seal answer place = record { seal = seal; answer = answer; place = plac
 
 abbrev pub tally : ℕ → ℕ → ℕ → Tally
 tally seen passed refused = record { seen = seen; passed = passed; refused = refused }
+
+abbrev pub counted : Bool → Tally → Tallied
+counted ok t = record { ok = ok; tally = t }
 
 -- THE LINES: a row of the list; an entering, its row number and whether there is such a row; a tally; a counting, whether it was taken and the tally then
 unfoldable pub three_line : List ℕ → ℕ → ℕ → ℕ → List ℕ

@@ -8,11 +8,10 @@ ghost use Rattle.std.specs.Prelude.{◌≡◌, ◌+◌, length, get_or};
 ghost use mathlib.Core.List.{flat_map};
 ghost use Rattle.text.specs.Pen.{pen, Wrote, Rendered};
 ghost use Rattle.books.specs.History.{empty as empty_tally};
-ghost use Rattle.books.specs.Tally.{tally_of};
-ghost use Rattle.day.specs.Lines.{row_with as row_of, tally as tally_with, three_line, day_row_line, yes_or_no, enter_line, tally_line, count_line, entry, last_entry, entries, whole_day, both_lines, from_lines, full_lines, all_lines};
+ghost use Rattle.day.specs.Lines.{row_with as row_of, tally as tally_with, counted, three_line, day_row_line, yes_or_no, enter_line, tally_line, count_line, entry, last_entry, entries, whole_day, both_lines, from_lines, full_lines, all_lines};
 ghost use Rattle.day.specs.Page.{page_of};
 
-use books::{DayRow, Tallied, Tally};
+use books::{DayRow, Tally};
 use units::Row;
 
 // A list of four rows, and what the last entry was answered.
@@ -27,15 +26,6 @@ pub struct Page {
 pub struct Entry {
     pub at: Row,
     pub row: DayRow,
-}
-
-// A record of this function's own is lent to the one that changes it in place.
-fn count_in_place(t: Tally, pass: bool) -> Tallied
-    ensures { result ≡ tally_of t pass }
-{
-    let mut u = t;
-    let ok = books::count(&mut u, pass);
-    Tallied { ok, tally: u }
 }
 
 // A list of this function's own is lent to the one that rewrites a row of it.
@@ -140,14 +130,14 @@ fn put_tally(out: &mut [u8], at: usize, t: Tally) -> usize
     )
 }
 
-// What was answered, and the tally as it then stands.
-fn put_counted(out: &mut [u8], at: usize, c: Tallied) -> usize
-    ensures { Wrote 79 (count_line c) (pen out.old at) (pen out.new result) }
+// Whether an answer was counted, and the tally as it then stands.
+fn put_counted(out: &mut [u8], at: usize, ok: bool, t: Tally) -> usize
+    ensures { Wrote 79 (count_line (counted ok t)) (pen out.old at) (pen out.new result) }
 {
     let named = text::put(out, at, b"count");
-    let answered = put_yes_or_no(out, named, c.ok);
+    let answered = put_yes_or_no(out, named, ok);
     let spaced = text::put(out, answered, b" ");
-    put_tally(out, spaced, c.tally)
+    put_tally(out, spaced, t)
 }
 
 fn put_list(out: &mut [u8], at: usize, rows: [DayRow; 4]) -> usize
@@ -189,9 +179,8 @@ fn put_day(out: &mut [u8]) -> usize
         let page = enter_in_place(rows, at, row);
         rows = page.rows;
         let entered = put_entry(out, next, at, page.ok);
-        let c = count_in_place(t, row.answer == 0);
-        t = c.tally;
-        next = put_counted(out, entered, c);
+        let counted = books::count(&mut t, row.answer == 0);
+        next = put_counted(out, entered, counted, t);
     }
     let listed = put_list(out, next, rows);
     put_tally(out, listed, t)
@@ -201,18 +190,22 @@ fn put_day(out: &mut [u8]) -> usize
 fn put_both_in_place(out: &mut [u8], at: usize, t: Tally) -> usize
     ensures { Wrote 158 (both_lines t) (pen out.old at) (pen out.new result) }
 {
-    let c = count_in_place(t, true);
-    let passed = put_counted(out, at, c);
-    put_counted(out, passed, count_in_place(c.tally, false))
+    let mut u = t;
+    let passed = books::count(&mut u, true);
+    let next = put_counted(out, at, passed, u);
+    let refused = books::count(&mut u, false);
+    put_counted(out, next, refused, u)
 }
 
 // The same by value.
 fn put_both_by_value(out: &mut [u8], at: usize, t: Tally) -> usize
     ensures { Wrote 158 (both_lines t) (pen out.old at) (pen out.new result) }
 {
-    let c = books::counted(t, true);
-    let passed = put_counted(out, at, c);
-    put_counted(out, passed, books::counted(c.tally, false))
+    let passed = books::counted(t, true);
+    let u = passed.unwrap_or(t);
+    let next = put_counted(out, at, passed.is_some(), u);
+    let refused = books::counted(u, false);
+    put_counted(out, next, refused.is_some(), refused.unwrap_or(u))
 }
 
 // Both, from a tally of any counts.

@@ -11,8 +11,7 @@ use lib.Dec.{ltb}
 use lib.ListN.{length, take, length-take}
 use lib.Seq.{take_all}
 use Rattle.books.specs.declared.Tally.{Tally}
-use Rattle.books.specs.declared.Tallied.{Tallied}
-use Rattle.books.specs.Tally.{full, count_of, raised, tally_of}
+use Rattle.books.specs.Tally.{full, Tallied, count_of, raised, tally_of}
 use Rattle.books.specs.History.{many, shift_counts, added, empty, tally_after_shift, taken}
 use Rattle.books.proofs.TallyLaws.{Decided, decided, seen_full, has_room}
 

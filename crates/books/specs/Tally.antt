@@ -1,8 +1,7 @@
 -- The shift tally: three counts that never turn over. Where one that an answer raises has no number left, the tally stays as it is.
 -- Assumes nothing.
-use Rattle.std.specs.Prelude.{ℕ, ◌+◌, Bool, true, false, ◌||◌, cond, leb}
+use Rattle.std.specs.Prelude.{ℕ, ◌+◌, Bool, true, false, ◌||◌, cond, leb, Option, is_some, unwrap_or}
 use Rattle.books.specs.declared.Tally.{Tally}
-use Rattle.books.specs.declared.Tallied.{Tallied}
 
 -- the last number below 2^32
 abbrev pub full : ℕ
@@ -21,7 +20,11 @@ abbrev pub raised : Tally → Bool → Tally
 raised t true = record { seen = t.seen + 1; passed = t.passed + 1; refused = t.refused }
 raised t false = record { seen = t.seen + 1; passed = t.passed; refused = t.refused + 1 }
 
--- what it answers, and what it is then
+-- whether an answer was counted, and the tally as it then stands
+pub record Tallied : Type 0 where
+  pub ok : Bool
+  pub tally : Tally
+
 abbrev pub no : Tally → Tallied
 no t = record { ok = false; tally = t }
 
@@ -30,3 +33,7 @@ yes t = record { ok = true; tally = t }
 
 unfoldable pub tally_of : Tally → Bool → Tallied
 tally_of t p = cond (is_full t.seen || is_full (count_of t p)) (no t) (yes (raised t p))
+
+-- the same told by a tally with one answer more, or by none where it stays
+abbrev pub told : Tally → Option Tally → Tallied
+told t o = record { ok = is_some o; tally = unwrap_or o t }

@@ -4,7 +4,7 @@
 #![tactic(auto)]
 
 ghost use Rattle.std.specs.Prelude.{◌≡◌, ◌<◌};
-ghost use Rattle.books.specs.Tally.{full, count_of, raised, tally_of};
+ghost use Rattle.books.specs.Tally.{full, count_of, raised, tally_of, told};
 ghost use Rattle.books.specs.DayList.{is_on, with_day_row};
 
 use units::Row;
@@ -17,13 +17,6 @@ pub struct Tally {
     pub seen: u32,
     pub passed: u32,
     pub refused: u32,
-}
-
-// The answer, and the tally as it then stands.
-#[derive(Clone, Copy)]
-pub struct Tallied {
-    pub ok: bool,
-    pub tally: Tally,
 }
 
 // The count that an answer raises beside seen.
@@ -52,35 +45,27 @@ fn raise(t: Tally, pass: bool) -> Tally
     }
 }
 
-// Yes and the tally with one answer more; or no and the tally as it is, where a count is full.
-pub fn counted(t: Tally, pass: bool) -> Tallied
-    ensures { result ≡ tally_of t pass }
+// The tally with one answer more; none where a count is full, and then the tally stays as it is.
+pub fn counted(t: Tally, pass: bool) -> Option<Tally>
+    ensures { told t result ≡ tally_of t pass }
 {
     if FULL <= t.seen {
-        return Tallied {
-            ok: false,
-            tally: t,
-        };
+        return None;
     }
     if FULL <= count_of(t, pass) {
-        return Tallied {
-            ok: false,
-            tally: t,
-        };
+        return None;
     }
-    Tallied {
-        ok: true,
-        tally: raise(t, pass),
-    }
+    Some(raise(t, pass))
 }
 
-// The record changed in place. Thin: `counted` does the work.
+// The record changed in place, and whether it was. There is one reason why not, so a bool says all that an error
+// would. Thin: `counted` does the work.
 pub fn count(t: &mut Tally, pass: bool) -> bool
     ensures { (result ≡ (tally_of t.old pass).ok) × (t.new ≡ (tally_of t.old pass).tally) }
 {
-    let c = counted(*t, pass);
-    *t = c.tally;
-    c.ok
+    let more = counted(*t, pass);
+    *t = more.unwrap_or(*t);
+    more.is_some()
 }
 
 // A row of the day list.
@@ -91,7 +76,8 @@ pub struct DayRow {
     pub place: u8,
 }
 
-// Rewrites one row of the day list, and answers whether there is such a row; if not, the list stays.
+// Rewrites one row of the day list, and answers whether there is such a row, which is all that an error would say; if
+// not, the list stays.
 pub fn enter(list: &mut [DayRow], at: Row, row: DayRow) -> bool
     ensures { (result ≡ is_on at.0 list.old) × (list.new ≡ with_day_row at.0 row list.old) }
 {

@@ -14,9 +14,8 @@ use Rattle.text.specs.Pen.{Pen, Wrote}
 use Rattle.text.proofs.PenLaws.{start, then, text_as}
 use Rattle.books.specs.declared.DayRow.{DayRow}
 use Rattle.books.specs.declared.Tally.{Tally}
-use Rattle.books.specs.declared.Tallied.{Tallied}
 use Rattle.books.specs.DayList.{is_on, with_day_row}
-use Rattle.books.specs.Tally.{tally_of}
+use Rattle.books.specs.Tally.{Tallied, tally_of}
 use Rattle.day.specs.declared.Entry.{Entry}
 use Rattle.day.specs.Lines.{counted, three_line, day_row_line, yes_or_no, enter_line, tally_line, count_line, is_pass, day_lines, entries, both_lines}
 

@@ -6,10 +6,9 @@ use Rattle.text.specs.Words.{ascii}
 use Rattle.text.specs.Decimal.{decimal}
 use Rattle.books.specs.declared.DayRow.{DayRow}
 use Rattle.books.specs.declared.Tally.{Tally}
-use Rattle.books.specs.declared.Tallied.{Tallied}
 use Rattle.books.specs.DayList.{is_on, with_day_row}
 use Rattle.books.specs.History.{empty}
-use Rattle.books.specs.Tally.{tally_of}
+use Rattle.books.specs.Tally.{Tallied, tally_of}
 use Rattle.day.specs.declared.Entry.{Entry}
 
 abbrev pub row_with : ℕ → ℕ → ℕ → DayRow

@@ -162,9 +162,10 @@ fn put_both_by_value(page: &mut Page<4096>, t: Tally)
     ensures { Wrote 158 (both_lines t) page.old page.new }
 {
     let passed = books::counted(t, true);
-    put_counted(page, passed.ok, passed.tally);
-    let refused = books::counted(passed.tally, false);
-    put_counted(page, refused.ok, refused.tally);
+    let u = passed.unwrap_or(t);
+    put_counted(page, passed.is_some(), u);
+    let refused = books::counted(u, false);
+    put_counted(page, refused.is_some(), refused.unwrap_or(u));
 }
 
 // Both, from a tally of any counts.

@@ -7,8 +7,7 @@ use Rattle.refusals.specs.declared.Answer.{Answer}
 use Rattle.refusals.specs.Rules.{accepted, is_accepted}
 use Rattle.books.specs.declared.DayRow.{DayRow}
 use Rattle.books.specs.declared.Tally.{Tally}
-use Rattle.books.specs.declared.Tallied.{Tallied}
-use Rattle.books.specs.Tally.{tally_of}
+use Rattle.books.specs.Tally.{Tallied, tally_of}
 use Rattle.host.specs.Answers.{wrong_length, is_long, tally_full, no_such_row, no_answer}
 
 -- THE TALLY: seen, passed, refused, four bytes each

@@ -283,11 +283,10 @@ pub fn snaldrek_proved_tally(tally: &mut [u8], answer: u32) -> u32
     if tally.len() != 12 {
         return refused(Misuse::TallyLength);
     }
-    let counted = books::counted(tally_in(&*tally), answer == 0);
-    if !counted.ok {
+    let Some(counted) = books::counted(tally_in(&*tally), answer == 0) else {
         return refused(Misuse::TallyFull);
-    }
-    let bytes = tally_bytes(counted.tally);
+    };
+    let bytes = tally_bytes(counted);
     octets::copy_in(tally, 0, &bytes);
     code(Answer::accepted())
 }

@@ -20,7 +20,7 @@ use text::Page;
 
 // What is wrong with the input first. A word is named by its number, counted from 1. Where the cases have other
 // bytes than were named: how many there are, and how many were named.
-#[derive(Clone, Copy)]
+#[derive(Clone, Copy, Debug, PartialEq, Eq)]
 pub enum PackingError {
     NoGate,
     TooManyCases,
@@ -179,23 +179,12 @@ fn digits_of(u: &[u8]) -> u64
     value_from(v, behind(u, b'.'))
 }
 
-fn ten_to(k: usize) -> u64
-    requires { k ≤ 15 }
-    ensures { result ≡ 10 ^ k }
-{
-    let mut n = 1;
-    for _i in 0..k {
-        n *= 10;
-    }
-    n
-}
-
 // The power of ten that the digits are divided by.
 fn scale_of(u: &[u8]) -> u64
     requires { is_unsigned u.now ≡ true }
     ensures { result ≡ scale_of u.now }
 {
-    ten_to(behind(u, b'.').len())
+    10u64.pow(behind(u, b'.').len() as u32)
 }
 
 // Rounded once: both whole numbers are binary64 numbers exactly.
@@ -338,7 +327,8 @@ fn is_fit(line: &[u8], kind: usize, k: usize) -> bool
     is_length(w)
 }
 
-// The first of n words behind the gate's name that is not as it should be.
+// The first of n words behind the gate's name that is not as it should be. Words are asked for by their number: a
+// line keeps no list of them.
 fn first_unfit(line: &[u8], kind: usize, n: usize) -> usize
     requires kind_bound { kind ≤ 2 }
     requires n_bound { n ≤ 11 }

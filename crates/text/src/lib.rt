@@ -13,7 +13,8 @@ ghost use Rattle.text.specs.Words.{name_line};
 use refusals::Answer;
 use std::marker::Model;
 
-// A page of N bytes, and the place where the next byte is written. What does not fit is dropped.
+// A page of N bytes, and the place where the next byte is written. What does not fit is dropped. What is put here
+// is not printed by `Display`, which gives text alone: a page also holds the bytes of a case or of a bag.
 #[derive(Drop)]
 pub struct Page<const N: usize> {
     bytes: [u8; N],

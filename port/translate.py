@@ -16,6 +16,8 @@ ONE_LINE = re.compile(r"^(fn .*?\)(?: -> [^{\n]+?)?)((?:\nrequires)*) \{ (.*) \}
 CLAUSE = re.compile(r"[ \n]+(requires|ensures)(?: \w+)? \{")
 COUNTED = {("judge", "compare")}  # functions whose calls are counted, each by its crate
 ENDLESS = {("slices", "ancestor")}  # functions that take as many turns as they are told, so that none is drawn
+MODEL = re.compile(r"^use std::marker::Model;\n|^impl\b[^\n{]* Model for [^\n{]*\{\n.*?^\}\n", re.M | re.S)  # what a struct means to the prover
+SIZED = "200"  # the size of a type that has one, where its functions are called by themselves
 NUMBER = re.compile(r"^(?:pub )?const (\w+): \w+ = (\d+);", re.M)
 
 
@@ -78,6 +80,7 @@ def without_proofs(text):
     """The lines of a file but for ghost lines, attributes, contracts and comments; a contract leaves `requires` or nothing."""
     # A wrong version may have a whole function on one line, or a type with one function of its own.
     text = re.sub(r"(ghost use [^;]*;|^#\[[^]]*\]) +(?=\S)", r"\1\n", text, flags=re.M)
+    text = MODEL.sub("", text)
     text = re.sub(r"^struct .*$", lambda m: without_clauses(m[0]).replace("\nrequires", ""), text, flags=re.M)
     text = ONE_LINE.sub(r"\1\2\n{\n\3\n}", without_clauses(text))
     return [line for line in text.split("\n") if not re.match(r"\s*(ghost |//|#!?\[)", line)]
@@ -99,7 +102,7 @@ def items_of(text):
             items.append(Item(owner + m[3], head, body, bool(m[2]), "requires" in lines[at:end]))
             at = last + 1
             continue
-        impl = re.match(r"impl (?:(\w.*) for )?(\w+) \{", line)
+        impl = re.match(r"impl(?:<[^>]*>)? (?:(\w.*) for )?(\w+)(?:<[^>]*>)? \{", line)
         if impl:
             owner = f"<{impl[2]} as {impl[1]}>::" if impl[1] else impl[2] + "::"
         elif line == "}":
@@ -148,6 +151,8 @@ def split_list(text):
 
 def drawn_type(kind, text):
     """How a value of a type is drawn at random."""
+    if kind == "struct" and "{" not in text and "(" not in text:
+        return "Self"
     if kind == "struct":
         body = re.search(r"\((.*)\);", text, re.S)
         if body:
@@ -163,20 +168,32 @@ def drawn_type(kind, text):
     return f"match d.below({len(cases)}) {{ {' '.join(arms)} _ => unreachable!() }}"
 
 
+# A page, which never has its place past its end, is drawn with a text on it.
+PAGE = """impl<const N: usize> crate::Draw for Page<N> { fn draw(d: &mut crate::Dice) -> Self {
+let text: Vec<u8> = d.draw(); let at = text.len().min(N); let mut bytes = [0; N]; bytes[..at].copy_from_slice(&text[..at]); Page { bytes, at } } }
+"""
+
+
 def drawn_types(text):
     """For each type of a module how its values are drawn."""
     found = ""
-    for m in re.finditer(r"^(?:pub )?(struct|enum) (\w+)(?:\([^)]*\);| \{.*?^\})", text, re.M | re.S):
+    if re.search(r"^(?:pub )?struct Page<", text, re.M):
+        found = PAGE
+    for m in re.finditer(r"^(?:pub )?(struct|enum) (\w+)(?:\([^)]*\);|;| \{.*?^\})", text, re.M | re.S):
         found += f"impl crate::Draw for {m[2]} {{ fn draw(d: &mut crate::Dice) -> Self {{ {drawn_type(m[1], m[0])} }} }}\n"
     return found
 
 
-def call_of(item):
-    """A call of a function on drawn arguments, which tells what was given, what came back and what is left."""
+def call_of(item, sized):
+    """A call of a function on drawn arguments, which tells what was given, what came back and what is left. What has
+    a size of its own, as a type that is among the sized ones, is called with one."""
     lets, given = "", []
+    owner, _, method = item.name.rpartition("::")
     sizes = re.findall(r"const (\w+): usize", item.head.partition("(")[0])
+    name = f"{owner}::<{SIZED}>::{method}" if owner in sized else item.name + (f"::<{', '.join(SIZE for _ in sizes)}>" if sizes else "")
     for number, parameter in enumerate(split_list(parameters_of(item.head))):
-        kind = parameter.partition(": ")[2] or item.name.split("::")[0]
+        kind = parameter.partition(": ")[2] or parameter.removeprefix("mut ").replace("self", f"{owner}<{SIZED}>" if owner in sized else owner)
+        kind = kind.replace("<N>", f"<{SIZED}>") if owner in sized else kind
         for size in sizes:
             kind = re.sub(rf"\b{size}\b", SIZE, kind)
         lent = re.match(r"&(?:'a )?(mut )?", kind)
@@ -184,7 +201,6 @@ def call_of(item):
         lets += f"let mut a{number}: {HANDED.get(kind, kind)} = d.draw(); "
         given.append(f"&{lent[1] or ''}a{number}" if lent else f"a{number}")
     told = f"crate::told(&({''.join(f'&a{n}, ' for n in range(len(given)))}))"
-    name = item.name + (f"::<{', '.join(SIZE for _ in sizes)}>" if sizes else "")
     result = f"crate::told(&{name}({', '.join(given)}))"
     return f'("{item.name}", {str(item.public).lower()}, |d| {{ {lets}let lent = {told}; let r = {result}; [lent, r, {told}] }}),'
 
@@ -248,7 +264,8 @@ def rust_of(crate, modules, items, variants, added):
         put(f"_ => {{\n{plain(crate, modules, item.body)}\n}} }} }}")
     put(plain(crate, modules, added))
     put(drawn_types("\n".join(i.head for i in items if not i.name)))
-    calls = [call_of(i) for i in items if i.is_function and not i.asks and (crate, i.name) not in ENDLESS]
+    sized = set(re.findall(r"struct (\w+)<const", "\n".join(i.head for i in items)))
+    calls = [call_of(i, sized) for i in items if i.is_function and not i.asks and (crate, i.name) not in ENDLESS]
     if any(i.name == "main" for i in items):
         calls = [MAIN] if any(".stdin()" in i.body for i in items) else []
     put("pub const CALLS: &[crate::Call] = &[\n" + "\n".join(calls) + "\n];")

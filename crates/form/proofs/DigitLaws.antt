@@ -1,27 +1,68 @@
 -- Digits, by the turns of the loops that read them.
 -- Assumes nothing.
 use Prim.Native.Nat.{ℕ, zero, suc, ◌+◌, ◌-◌, ◌*◌, ◌/◌, ◌≤◌, ◌<◌}
-use mathlib.Core.Path.{◌≡◌, refl}
+use mathlib.Core.Path.{◌≡◌, refl, ap}
 use mathlib.Core.Bool.{Bool, true, false, cond, not, ◌&&◌}
 use mathlib.Core.List.{List, [], ◌∷◌}
 use native.Mathlib.Numerals.{add-one}
 use native.Mathlib.Omega.{arith}
 use Rattle.std.specs.Prelude.{Some, None}
+use Rattle.std.specs.List.{list_all}
+use Rattle.std.specs.Char.{is_ascii_digit}
+use native.Mathlib.Decide.{dec_le}
+use native.Mathlib.Nat.{lt_of_not-le}
 use Rattle.std.specs.Option.{is_some}
 use lib.Dec.{eqb, leb}
 use lib.ListN.{length, get_or, drop, drop_of_length-le}
 use lib.Seq.{drop-cons}
-use borrow.Author.Tests.{leb-true, ltb-true, le-leb, lt-leb, lt-ltb, le-ltb, eq-eqb, ne_eqb}
+use borrow.Author.Tests.{leb-true, ltb-true, le-leb, lt-leb, eq-eqb, ne_eqb}
 use Rattle.octets.proofs.BoolLaws.{and_both}
 use Rattle.form.specs.Digits.{every, is_within, is_digit, number_from, is_number, worth, is_hex_digit, is_hex, bytes_in}
 
-pub within_low : (low high x : ℕ) → is_within low high x ≡ true → low ≤ x
+-- a byte within bounds, and one that is not
+within : (low high x : ℕ) → low ≤ x → x ≤ high → is_within low high x ≡ true
 unfolding is_within
-within_low low high x h = leb-true low x (and_both (leb low x) (leb x high) h).0
+within low high x h k = rw (le-leb low x h, le-leb x high k)
+
+not_within : (low high x : ℕ) → (low ≤ x → high < x) → is_within low high x ≡ false
+unfolding is_within
+not_within low high x h = go (dec_le low x)
+  where
+    go : Dec (low ≤ x) → (leb low x && leb x high) ≡ false
+    go (yes k) = rw (le-leb low x k, lt-leb x high (h k))
+    go (no k) = rw (lt-leb low x (lt_of_not-le k))
+
+-- the library's test of a digit, as the code makes it
+pub digit_as : (x : ℕ) → is_ascii_digit x ≡ is_digit x
+unfolding is_digit is_within
+digit_as x = refl
 
 pub digit_low : (x : ℕ) → is_digit x ≡ true → 48 ≤ x
-unfolding is_digit
-digit_low x h = within_low 48 57 x h
+unfolding is_digit is_within
+digit_low x h = leb-true 48 x (and_both (leb 48 x) (leb x 57) h).0
+
+-- what a byte is worth
+pub worth_digit : (x : ℕ) → 48 ≤ x → x ≤ 57 → worth x ≡ x - 48
+unfolding worth is_digit
+worth_digit x h k = rw (within 48 57 x h k)
+
+pub worth_small : (x : ℕ) → 97 ≤ x → x ≤ 102 → worth x ≡ x - 87
+unfolding worth is_digit
+worth_small x h k = rw (not_within 48 57 x (λ l. omega arith), within 97 102 x h k)
+
+pub worth_large : (x : ℕ) → 65 ≤ x → x ≤ 70 → worth x ≡ x - 55
+unfolding worth is_digit
+worth_large x h k = rw (not_within 48 57 x (λ l. omega arith), not_within 97 102 x (λ l. omega arith), within 65 70 x h k)
+
+pub worth_none : (x : ℕ) → (48 ≤ x → 57 < x) → (97 ≤ x → 102 < x) → (65 ≤ x → 70 < x) → worth x ≡ 16
+unfolding worth is_digit
+worth_none x h k l = rw (not_within 48 57 x h, not_within 97 102 x k, not_within 65 70 x l)
+
+-- the library's test of each digit, as the code makes it
+pub every_as : (f : ℕ → Bool) (s : List ℕ) → list_all f s ≡ every f s
+unfolding every
+every_as f [] = refl
+every_as f (x ∷ s) = ap (λ (b : Bool). f x && b) (every_as f s)
 
 -- whether every byte passes a test: a turn, a byte that does not, and the end
 module _ (f : ℕ → Bool) (s : List ℕ) (i : ℕ) (h : i < length s) where
@@ -78,21 +119,9 @@ unfolding is_number
 too_large most s h = and_not (not (eqb (length s) 0)) _ (and_not (every is_digit s) _ (lt-leb (number_from 0 s) most h))
 
 -- hexadecimal digits
-pub hex_digit_lem : (x : ℕ) → worth x < 16 → is_hex_digit x ≡ true
-unfolding is_hex_digit
-hex_digit_lem x h = lt-ltb (worth x) 16 h
-
-pub no_hex_digit : (x : ℕ) → 16 ≤ worth x → is_hex_digit x ≡ false
-unfolding is_hex_digit
-no_hex_digit x h = le-ltb (worth x) 16 h
-
 pub hex_worth : (x : ℕ) → is_hex_digit x ≡ true → worth x < 16
 unfolding is_hex_digit
 hex_worth x h = ltb-true (worth x) 16 h
-
-pub is_hex_lem : (n : ℕ) (s : List ℕ) (b : Bool) → length s ≡ n → every is_hex_digit s ≡ b → is_hex n s ≡ b
-unfolding is_hex
-is_hex_lem n s b h d = rw (eq-eqb (length s) n h, d)
 
 pub hex_length : (n : ℕ) (s : List ℕ) → (length s ≡ n → ⊥) → is_hex n s ≡ false
 unfolding is_hex

@@ -19,8 +19,7 @@ use Rattle.octets.proofs.PartLaws.{same_eq, zeros_length, zeros_append}
 use Rattle.text.specs.Words.{ascii}
 use Rattle.form.specs.declared.fields.Shape.{Shape}
 use Rattle.form.specs.declared.fields.Kind.TheVariants.{Hex}
-use Rattle.form.specs.declared.lines.Stop.TheVariants.{Blank}
-use Rattle.form.specs.Lines.{is_blank, stops_at, up_to, word_of, value_of}
+use Rattle.form.specs.Lines.{Blank, is_blank, stops_at, up_to, word_of, value_of}
 use Rattle.form.specs.Digits.{every, is_hex_digit, is_hex}
 use Rattle.form.specs.Fields.{Field, field, size_of, accepts, fields, field_at, is_field}
 

@@ -1,17 +1,14 @@
 -- A part of a text up to a stop: by its length, and by the turns of the loop that looks for the stop. And a text's first line, and the lines behind it.
 -- Assumes nothing.
-use Prim.Native.Nat.{ℕ, suc, ◌+◌, ◌-◌, ◌≤◌, ◌<◌}
+use Prim.Native.Nat.{ℕ, zero, suc, ◌+◌, ◌-◌, ◌≤◌, ◌<◌}
 use mathlib.Core.Path.{◌≡◌, refl, ap, ◌∙◌}
 use mathlib.Core.Bool.{Bool, true, false, cond}
 use mathlib.Core.List.{List, [], ◌∷◌}
 use native.Mathlib.Nat.{sub-zero}
-use native.Mathlib.Numerals.{add-one}
 use native.Mathlib.Omega.{arith}
-use lib.ListN.{length, get_or, take, drop, length-take, length-drop, drop_of_length-le}
-use lib.Seq.{take_all, drop-cons}
-use Rattle.form.specs.declared.lines.Stop.{Stop}
-use Rattle.form.specs.declared.lines.Stop.TheVariants.{End, Mark, Ink}
-use Rattle.form.specs.Lines.{stops_at, up_to, from, with_first, lines_in, content_of}
+use lib.ListN.{length, get_or, take, drop, length-take, length-drop}
+use lib.Seq.{take_all}
+use Rattle.form.specs.Lines.{Stop, End, Mark, Ink, stops_at, up_to, from, with_first, lines_in, content_of}
 
 pub up_to_take : (e : Stop) (s : List ℕ) → take (length (up_to e s)) s ≡ up_to e s
 unfolding up_to
@@ -39,19 +36,13 @@ pub cut_from : (e : Stop) (s : List ℕ) (n m : ℕ) → n ≡ length (up_to e s
 cut_from e s n m h k =
     take_all (m - n) (drop n s) (omega (arith, length-drop n s)) ∙ ap (λ (i : ℕ). drop i s) h ∙ from_drop e s
 
--- the loop that looks for the stop: a turn, the stop, and the end
-module _ (e : Stop) (s : List ℕ) (i : ℕ) (h : i < length s) where
-  pub passed : stops_at e (get_or s i 0) ≡ false → length (up_to e (drop i s)) ≡ 1 + length (up_to e (drop (i + 1) s))
-  unfolding up_to
-  passed q = rw (drop-cons s i 0 h, q, add-one) (omega arith)
-
-  pub stopped : stops_at e (get_or s i 0) ≡ true → length (up_to e (drop i s)) ≡ 0
-  unfolding up_to
-  stopped q = rw (drop-cons s i 0 h, q)
-
-pub ended : (e : Stop) (s : List ℕ) (i : ℕ) → length s ≤ i → length (up_to e (drop i s)) ≡ 0
+-- where the code finds the stop: no byte before it is one, and it is one, or the end
+pub up_to_is : (e : Stop) (s : List ℕ) (n : ℕ) → n ≤ length s → ((k : ℕ) → k < n → stops_at e (get_or s k 0) ≡ false) → (n < length s → stops_at e (get_or s n 0) ≡ true)
+    → n ≡ length (up_to e s)
 unfolding up_to
-ended e s i h = rw (drop_of_length-le s h)
+up_to_is e [] n h b f = omega arith
+up_to_is e (x ∷ s) zero h b f = rw (f (omega arith))
+up_to_is e (x ∷ s) (suc n) h b f = rw (b 0 (omega arith)) (ap suc (up_to_is e s n (omega arith) (λ k l. b (suc k) (omega arith)) (λ l. f (omega arith))))
 
 -- the first line of a text that has any bytes, and the others
 pub first_line : (s : List ℕ) → 0 < length s → lines_in s ≡ up_to End s ∷ lines_in (drop (length (up_to End s) + 1) s)

@@ -13,8 +13,7 @@ use borrow.Author.Tests.{le-leb, lt-leb}
 use Rattle.text.specs.Pen.{Pen, Wrote}
 use Rattle.text.proofs.PenLaws.{start, then, text_as}
 use Rattle.form.specs.declared.FormError.TheVariants.{Wrong, TooLong}
-use Rattle.form.specs.declared.lines.Stop.TheVariants.{End}
-use Rattle.form.specs.Lines.{up_to, lines_in, value_of}
+use Rattle.form.specs.Lines.{End, up_to, lines_in, value_of}
 use Rattle.form.specs.Fields.{size_of, field_at, is_field, field_bytes}
 use Rattle.form.specs.Forms.{Reading, reading, is_passed_over, read_from, reading_of}
 use Rattle.form.proofs.LineLaws.{first_line}

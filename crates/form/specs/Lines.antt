@@ -2,12 +2,17 @@
 -- Assumes nothing.
 use Rattle.std.specs.Prelude.{ℕ, Bool, cond, not, ◌||◌, eqb}
 use mathlib.Core.List.{List, [], ◌∷◌, flat_map}
-use Rattle.form.specs.declared.lines.Stop.{Stop}
-use Rattle.form.specs.declared.lines.Stop.TheVariants.{End, Mark, Blank, Ink}
 
 -- space, tab and carriage return
 unfoldable pub is_blank : ℕ → Bool
 is_blank x = eqb x 32 || eqb x 9 || eqb x 13
+
+-- at what a part of a text stops
+pub data Stop : Type 0 where
+  End : Stop
+  Mark : Stop
+  Blank : Stop
+  Ink : Stop
 
 -- at which bytes a part of a text stops: at a line's end, at the mark of a comment, at a blank, or at what is no blank
 unfoldable pub stops_at : Stop → ℕ → Bool

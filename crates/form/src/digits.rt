@@ -1,42 +1,26 @@
 // Digits as a number or as bytes. Which of the two a field has is left to `fields`. What is public here is for
 // this crate alone, which takes the value of digits that it asked about.
-ghost use Rattle.std.specs.Prelude.{◌≡◌, true, cond, ◌+◌, ◌*◌, ◌/◌, ◌<◌, length, Some, None};
+ghost use Rattle.std.specs.Prelude.{◌≡◌, true, cond, ◌+◌, ◌*◌, ◌/◌, ◌<◌, nat_lt, length, Some, None};
+ghost use Rattle.std.specs.List.{list_all};
 ghost use Rattle.text.specs.Pen.{Wrote};
-ghost use Rattle.form.specs.Digits.{is_within, is_digit, every, number_from, is_number, worth, is_hex_digit, is_hex, bytes_in};
+ghost use Rattle.form.specs.Digits.{every, number_from, is_number, worth, is_hex_digit, is_hex, bytes_in};
 
 use text::Page;
-
-fn is_within(x: u8, low: u8, high: u8) -> bool
-    ensures { result ≡ is_within low high x }
-{
-    if x < low {
-        return false;
-    }
-    x <= high
-}
-
-fn is_digit(x: u8) -> bool
-    ensures { result ≡ is_digit x }
-{
-    is_within(x, b'0', b'9')
-}
 
 // The number that decimal digits say, where it is at most the given one. Digits that follow can only make it
 // larger.
 fn number_of(digits: &[u8], most: u64) -> Option<u64>
     ensures { result ≡ cond (is_number most digits.now) (Some (number_from 0 digits.now)) None }
 {
-    let n = digits.len();
-    if n == 0 {
+    if digits.is_empty() {
         return None;
     }
     let mut v: u64 = 0;
-    for i in 0..n {
-        let x = digits[i];
-        if !is_digit(x) {
+    for x in digits {
+        if !x.is_ascii_digit() {
             return None;
         }
-        let d = (x - 48) as u64;
+        let d = u64::from(*x - 48);
         if most < d {
             return None;
         }
@@ -67,16 +51,18 @@ pub fn value_of(digits: &[u8], most: u64) -> u64
 fn worth_of(x: u8) -> u8
     ensures { result ≡ worth x }
 {
-    if is_digit(x) {
-        return x - 48;
+    match x {
+        b'0'..=b'9' => x - 48,
+        b'a'..=b'f' => x - 87,
+        b'A'..=b'F' => x - 55,
+        _ => 16,
     }
-    if is_within(x, b'a', b'f') {
-        return x - 87;
-    }
-    if is_within(x, b'A', b'F') {
-        return x - 55;
-    }
-    16
+}
+
+fn all_hex(digits: &[u8]) -> bool
+    ensures { result ≡ list_all (λ x. nat_lt (worth x) 16) digits.now }
+{
+    digits.iter().all(|x| worth_of(*x) < 16)
 }
 
 // Whether these are hexadecimal digits, and n of them.
@@ -86,12 +72,7 @@ pub fn is_hex(digits: &[u8], n: usize) -> bool
     if digits.len() != n {
         return false;
     }
-    for i in 0..n {
-        if 16 <= worth_of(digits[i]) {
-            return false;
-        }
-    }
-    true
+    all_hex(digits)
 }
 
 // The byte that two hexadecimal digits say.
@@ -102,7 +83,7 @@ fn byte_of(high: u8, low: u8) -> u8
     16 * worth_of(high) + worth_of(low)
 }
 
-// The bytes that hexadecimal digits say.
+// The bytes that hexadecimal digits say. A pair is taken by its number, as `bytes_in` counts it.
 pub fn put_bytes(page: &mut Page<4210>, digits: &[u8])
     requires { every is_hex_digit digits.now ≡ true }
     ensures { Wrote (length digits.now / 2) (bytes_in digits.now) page.old page.new }

@@ -5,13 +5,12 @@ ghost use Rattle.std.specs.Prelude.{◌≡◌, true, ◌+◌, ◌≤◌, ◌<◌
 ghost use Rattle.octets.specs.Numbers.{little_bytes};
 ghost use Rattle.octets.specs.Parts.{zeros, same as same_of};
 ghost use Rattle.text.specs.Pen.{Wrote};
-ghost use Rattle.form.specs.Lines.{up_to, value_of};
+ghost use Rattle.form.specs.Lines.{Blank, up_to, value_of};
 ghost use Rattle.form.specs.Fields.{accepts as accepts_of, bytes_of, size_of, field_at, is_field as is_field_of, field_bytes};
 ghost use Rattle.form.specs.declared.fields.Kind.TheVariants.{Proof};
-ghost use Rattle.form.specs.declared.lines.Stop.TheVariants.{Blank};
 
 use crate::digits::{is_hex, is_number, put_bytes, value_of};
-use crate::lines::{Stop, up_to, value, word};
+use crate::lines::{is_blank, up_to, value, word};
 use text::Page;
 
 // What a field's value is: a number of 64 bits, one of 32 bits, so many hexadecimal digits, or the digits of the
@@ -105,7 +104,7 @@ fn is_named(word: &[u8], k: usize) -> bool
     ensures { result ≡ same_of word.now (field_at k).name }
 {
     let name = cell(k);
-    let n = up_to(&name, Stop::Blank);
+    let n = up_to(&name, is_blank);
     octets::same(word, &name[0..n])
 }
 
@@ -114,7 +113,7 @@ pub fn put_name<const N: usize>(page: &mut Page<N>, k: usize)
     ensures { Wrote 32 (field_at k).name page.old page.new }
 {
     let name = cell(k);
-    let n = up_to(&name, Stop::Blank);
+    let n = up_to(&name, is_blank);
     page.put(&name[0..n]);
 }
 

@@ -16,12 +16,12 @@ ghost use Rattle.form.specs.Forms.{is_passed_over, read_from, reading_of};
 ghost use Rattle.form.specs.Faults.{kind_words, field_words, wrong_line, fault_line};
 
 use fields::{COUNT, Kind, MOST_AMOUNT, MOST_POSITION, is_field, kind_of, put_field, put_name};
-use lines::{Stop, up_to, word};
+use lines::{is_end, up_to, word};
 use text::Page;
 
 // Why a text is no form: a wrong line, counted from 1, and the field that was expected there, counted from 0; or it is
 // too long to be read.
-#[derive(Clone, Copy)]
+#[derive(Clone, Copy, Debug, PartialEq, Eq)]
 pub enum FormError {
     Wrong(usize, usize),
     TooLong,
@@ -38,7 +38,8 @@ fn is_passed_over(line: &[u8]) -> bool
     first.len() == 0
 }
 
-// The lines of a text, one after the other.
+// The lines of a text, one after the other. They are cut by hand: the library's `split` makes a line of what stands
+// behind the last end, so a text that ends with an end would have a line more.
 fn read_lines(text: &[u8], draft: &mut Page<4210>) -> Result<(), FormError>
     requires { length text.now ≤ 65536 }
     ensures value { result ≡ (read_from 1 0 [] (lines_in text.now)).formed }
@@ -49,7 +50,7 @@ fn read_lines(text: &[u8], draft: &mut Page<4210>) -> Result<(), FormError>
     let mut field = 0;
     while at < text.len() {
         let rest = &text[at..];
-        let n = up_to(rest, Stop::End);
+        let n = up_to(rest, is_end);
         let here = &rest[0..n];
         if !is_passed_over(here) {
             if !is_field(field, here) {

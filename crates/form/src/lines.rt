@@ -1,65 +1,53 @@
 // A line of a form: what counts in it, its first word, and its value. What these mean is left to the
 // modules beside this one. What is public here is for this crate alone, whose lines have at most 65,536 bytes.
-ghost use Rattle.std.specs.Prelude.{◌≡◌, ◌≤◌, length};
+ghost use Rattle.std.specs.Prelude.{◌≡◌, ℕ, ◌<◌, ◌≤◌, true, false, length, slice_index};
 ghost use mathlib.Core.List.{flat_map};
 ghost use Rattle.text.specs.Pen.{Wrote, Holds};
-ghost use Rattle.form.specs.Lines.{is_blank, stops_at, up_to, content_of, word_of, ink_of, value_of};
+ghost use Rattle.form.specs.Lines.{End, Mark, Ink, is_blank, stops_at, content_of, word_of, ink_of, value_of};
 
 use text::Page;
 
-// At what a part of a text stops: a line's end, the mark of a comment, a blank, or what is no blank.
-#[derive(Clone, Copy)]
-pub enum Stop {
-    End,
-    Mark,
-    Blank,
-    Ink,
-}
-
-fn is_blank(x: u8) -> bool
+pub fn is_blank(x: u8) -> bool
     ensures { result ≡ is_blank x }
 {
-    if x == b' ' {
-        return true;
-    }
-    if x == b'\t' {
-        return true;
-    }
-    x == b'\r'
+    matches!(x, b' ' | b'\t' | b'\r')
 }
 
-fn stops_at(stop: Stop, x: u8) -> bool
-    ensures { result ≡ stops_at stop x }
+fn is_ink(x: u8) -> bool
+    ensures { result ≡ stops_at Ink x }
 {
-    match stop {
-        Stop::End => x == b'\n',
-        Stop::Mark => x == b'#',
-        Stop::Blank => is_blank(x),
-        Stop::Ink => !is_blank(x),
-    }
+    !is_blank(x)
+}
+
+fn is_mark(x: u8) -> bool
+    ensures { result ≡ stops_at Mark x }
+{
+    x == b'#'
+}
+
+pub fn is_end(x: u8) -> bool
+    ensures { result ≡ stops_at End x }
+{
+    x == b'\n'
 }
 
 // How many bytes there are before the first at which it stops.
-pub fn up_to(s: &[u8], stop: Stop) -> usize
-    ensures value { result ≡ length (up_to stop s.now) }
-    ensures upper_bound { result ≤ length s.now }
+pub fn up_to<F: Fn(u8) -> bool>(s: &[u8], stops: F) -> usize
+    requires { F.IsAlwaysCallable stops }
+    ensures within { result ≤ length s.now }
+    ensures before { (k : ℕ) → k < result → F.post stops (slice_index s.now k) false }
+    ensures found { result < length s.now → F.post stops (slice_index s.now result) true }
 {
-    let n = s.len();
-    for i in 0..n {
-        if stops_at(stop, s[i]) {
-            return i;
-        }
-    }
-    n
+    s.iter().position(|x| stops(*x)).unwrap_or(s.len())
 }
 
 // What counts: all before a comment, from the first word on.
 fn content<'a>(line: &'a [u8]) -> &'a [u8]
     ensures { result.now ≡ content_of line.now }
 {
-    let end = up_to(line, Stop::Mark);
+    let end = up_to(line, is_mark);
     let said = &line[0..end];
-    let start = up_to(said, Stop::Ink);
+    let start = up_to(said, is_ink);
     &said[start..end]
 }
 
@@ -68,7 +56,7 @@ pub fn word<'a>(line: &'a [u8]) -> &'a [u8]
     ensures { result.now ≡ word_of line.now }
 {
     let said = content(line);
-    let end = up_to(said, Stop::Blank);
+    let end = up_to(said, is_blank);
     &said[0..end]
 }
 
@@ -89,7 +77,7 @@ pub fn value(line: &[u8]) -> Page<65536>
     ensures { Holds 65536 (value_of line.now) result }
 {
     let said = content(line);
-    let start = up_to(said, Stop::Blank);
+    let start = up_to(said, is_blank);
     let mut page = Page::new();
     put_without_blanks(&mut page, &said[start..]);
     page

@@ -1,7 +1,9 @@
 -- Digits and the numbers that they write.
 -- Assumes nothing.
-use Rattle.std.proofs.Common.{◌≡◌, ℕ, suc, ◌+◌, ◌-◌, ◌*◌, ◌^◌, ◌<◌, ◌≤◌, true, false, cond, ◌&&◌, eqb, leb, List, [], ◌∷◌, length, get_or, drop, sym, refl, ◌∙◌, ⊎_elim, le_trans, mul-le-mul_right, mul_assoc, mul_comm, eq-or-lt_of_le, pow-suc, le-mul_of_pos_right, arith, pow-add, eq-eqb, ne_eqb, eqb-true, le-leb, leb-true}
-use mathlib.Core.Bool.{false≢true}
+use Rattle.std.proofs.Common.{◌≡◌, ℕ, suc, ◌+◌, ◌-◌, ◌*◌, ◌^◌, ◌<◌, ◌≤◌, true, false, cond, ◌&&◌, eqb, leb, List, [], ◌∷◌, length, get_or, drop, sym, refl, ap, ◌∙◌, ⊎_elim, le_trans, mul-le-mul_right, mul_assoc, mul_comm, eq-or-lt_of_le, pow-suc, le-mul_of_pos_right, arith, pow-add, eq-eqb, ne_eqb, eqb-true, le-leb, leb-true}
+use mathlib.Core.Bool.{Bool, false≢true}
+use Rattle.std.specs.List.{list_all}
+use Rattle.std.specs.Char.{is_ascii_digit}
 use native.Mathlib.Nat.{one-le-pow, pow-le-pow_right}
 use borrow.Author.Tests.{eqb-false, lt-leb}
 use Rattle.refusals.proofs.RuleLaws.{by_test}
@@ -20,9 +22,11 @@ module _ (s : List ℕ) (i : ℕ) (h : i < length s) where
   unfolding value_from
   value_next v = rw (next_byte s i h)
 
-pub digits_end : (s : List ℕ) (i : ℕ) → length s ≤ i → all_digits (drop i s) ≡ true
-unfolding all_digits
-digits_end s i h = rw (none_left s i h)
+-- the library's test of each byte, as the code makes it
+pub all_as : (s : List ℕ) → list_all is_ascii_digit s ≡ all_digits s
+unfolding all_digits is_digit
+all_as [] = refl
+all_as (x ∷ s) = ap (λ (b : Bool). (leb 48 x && leb x 57) && b) (all_as s)
 
 pub value_end : (s : List ℕ) (i v : ℕ) → length s ≤ i → value_from v (drop i s) ≡ v
 unfolding value_from

@@ -47,10 +47,6 @@ module _ (kind cases : ℕ) (line : List ℕ) (there k : ℕ) (e : k ≡ first_u
 
 -- and by all
 module _ (kind cases : ℕ) (line bytes : List ℕ) where
-  pub no_gate : kind ≡ 3 → Err NoGate ≡ verdict_of kind cases line bytes
-  unfolding verdict_of
-  no_gate h = rw (eq-eqb kind 3 h)
-
   pub too_many : (kind ≡ 3 → ⊥) → 7 < cases → Err TooManyCases ≡ verdict_of kind cases line bytes
   unfolding verdict_of
   too_many h l = rw (ne_eqb kind 3 h, lt-ltb 7 cases l)

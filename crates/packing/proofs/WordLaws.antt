@@ -1,6 +1,6 @@
 -- Text cut at a byte, by a loop that goes through it.
 -- Assumes nothing.
-use Rattle.std.proofs.Common.{◌≡◌, ℕ, suc, ◌+◌, ◌-◌, ◌<◌, ◌≤◌, Bool, true, false, cond, eqb, List, [], ◌∷◌, length, get_or, take, drop, sym, refl, ◌∙◌, add-zero, add-one, arith, length-drop, drop_of_length-le, length-take, take_all, drop-cons, drop-drop, eq-eqb, ne_eqb}
+use Rattle.std.proofs.Common.{◌≡◌, ℕ, zero, suc, ◌+◌, ◌-◌, ◌<◌, ◌≤◌, Bool, true, false, cond, eqb, List, [], ◌∷◌, length, get_or, take, drop, sym, refl, ap, ◌∙◌, add-one, arith, length-drop, drop_of_length-le, length-take, take_all, drop-cons, eq-eqb, ne_eqb}
 use Rattle.packing.specs.Words.{place_of, up_to, behind, counted}
 
 pub empty : (s : List ℕ) → length s ≡ 0 → s ≡ []
@@ -18,19 +18,14 @@ none_left s i h = drop_of_length-le s h
 pub rest_of : (s : List ℕ) (i : ℕ) → take (length s - i) (drop i s) ≡ drop i s
 rest_of s i = take_all (length s - i) (drop i s) (omega (arith, length-drop i s))
 
+-- the place is the first index at which x stands, or the end
+pub place_is : (x : ℕ) (s : List ℕ) (n : ℕ) → n ≤ length s → ((k : ℕ) → k < n → get_or s k 0 ≡ x → ⊥) → (n < length s → get_or s n 0 ≡ x) → n ≡ place_of x s
+unfolding place_of
+place_is x [] n h b f = omega arith
+place_is x (y ∷ s) zero h b f = rw (eq-eqb y x (f (omega arith)))
+place_is x (y ∷ s) (suc n) h b f = rw (ne_eqb y x (b 0 (omega arith))) (ap suc (place_is x s n (omega arith) (λ k l. b (suc k) (omega arith)) (λ l. f (omega arith))))
+
 module _ (x : ℕ) (s : List ℕ) (i : ℕ) where
-  pub place_here : i < length s → get_or s i 0 ≡ x → i ≡ i + place_of x (drop i s)
-  unfolding place_of
-  place_here h e = sym (rw (next_byte s i h, eq-eqb (get_or s i 0) x e) (add-zero i))
-
-  pub place_next : i < length s → (get_or s i 0 ≡ x → ⊥) → i + place_of x (drop i s) ≡ (i + 1) + place_of x (drop (i + 1) s)
-  unfolding place_of
-  place_next h e = rw (next_byte s i h, ne_eqb (get_or s i 0) x e) (omega arith)
-
-  pub place_end : length s ≤ i → i + place_of x (drop i s) ≡ i
-  unfolding place_of
-  place_end h = rw (none_left s i h) (add-zero i)
-
   pub count_here : i < length s → get_or s i 0 ≡ x → counted x (drop i s) ≡ suc (counted x (drop (i + 1) s))
   unfolding counted
   count_here h e = rw (next_byte s i h, eq-eqb (get_or s i 0) x e)
@@ -62,14 +57,11 @@ pub behind_length : (x : ℕ) (s : List ℕ) → length (behind x s) ≡ length 
 unfolding behind
 behind_length x s = length-drop (place_of x s + 1) s
 
--- the index behind the place, where there is one and where there is none
-module _ (x : ℕ) (s : List ℕ) (from i : ℕ) (e : i ≡ from + place_of x (drop from s)) where
-  pub behind_found : drop (i + 1) s ≡ behind x (drop from s)
+-- what stands behind the place, where there is one and where there is none
+module _ (x : ℕ) (s : List ℕ) (i : ℕ) (e : i ≡ place_of x s) where
+  pub behind_found : drop (i + 1) s ≡ behind x s
   unfolding behind
-  behind_found = let p : i + 1 ≡ from + (place_of x (drop from s) + 1) = omega arith in rw p (sym (drop-drop (place_of x (drop from s) + 1) from s))
+  behind_found = rw e
 
-  pub behind_none : length s ≤ i → drop i s ≡ behind x (drop from s)
+  pub behind_none : length s ≤ i → drop i s ≡ behind x s
   behind_none h = none_left s i h ∙ sym (none_left s (i + 1) (omega arith)) ∙ behind_found
-
-  pub inside : from ≤ length s → i ≤ length s
-  inside h = omega (arith, place_within x (drop from s), length-drop from s)

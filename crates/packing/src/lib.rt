@@ -3,12 +3,14 @@
 // length of each case, and behind it the bytes of the cases. What the cases say is not looked at.
 #![tactic(auto)]
 
-ghost use Rattle.std.specs.Prelude.{◌≡◌, ◌+◌, ◌*◌, ◌^◌, ◌≤◌, true, ◌++◌, length, drop, to_bits};
+ghost use Rattle.std.specs.Prelude.{◌≡◌, ℕ, ◌+◌, ◌*◌, ◌^◌, ◌<◌, ◌≤◌, ◌≢◌, true, ◌++◌, length, slice_index, to_bits};
+ghost use Rattle.std.specs.List.{list_all};
+ghost use Rattle.std.specs.Char.{is_ascii_digit};
 ghost use Rattle.std.specs.Float.{binary64};
 ghost use Rattle.text.specs.Decimal.{decimal};
 ghost use Rattle.text.specs.Pen.{Wrote, Holds};
-ghost use Rattle.packing.specs.Words.{place_of, up_to as up_to_of, behind as behind_of, counted, word as word_of, space};
-ghost use Rattle.packing.specs.Decimals.{all_digits, is_digits, is_digit, value_from, is_length, length_of, is_negative, unsigned as unsigned_of, is_unsigned, is_number, digits_of, scale_of, quotient_of, number_of};
+ghost use Rattle.packing.specs.Words.{up_to as up_to_of, behind as behind_of, counted, word as word_of, space};
+ghost use Rattle.packing.specs.Decimals.{all_digits, is_digits, value_from, is_length, length_of, is_negative, unsigned as unsigned_of, is_unsigned, is_number, digits_of, scale_of, quotient_of, number_of};
 ghost use Rattle.packing.specs.Seals.{float_bytes, gate_kind, limit_bytes, seal_of};
 ghost use Rattle.packing.specs.Bags.{row, rows_from};
 ghost use Rattle.packing.specs.Packing.{case_count, case_count as count_of, sizes_from, sizes_in, sum, bag_in, bag_length, is_fit, first_unfit, bytes_verdict, line_verdict, verdict_of, error_line, packed_from, text_by, text_of};
@@ -18,7 +20,7 @@ use text::Page;
 
 // What is wrong with the input first. A word is named by its number, counted from 1. Where the cases have other
 // bytes than were named: how many there are, and how many were named.
-#[derive(Clone, Copy)]
+#[derive(Clone, Copy, Debug, PartialEq, Eq)]
 pub enum PackingError {
     NoGate,
     TooManyCases,
@@ -29,61 +31,45 @@ pub enum PackingError {
     OtherBytes(usize, usize),
 }
 
-// The place of the first x from index from on, or the end.
-fn place(s: &[u8], from: usize, x: u8) -> usize
-    requires { from ≤ length s.now }
-    ensures { result ≡ from + place_of x (drop from s.now) }
+// The place of the first x, or the end.
+fn place(s: &[u8], x: u8) -> usize
+    ensures within { result ≤ length s.now }
+    ensures before { (k : ℕ) → k < result → slice_index s.now k ≢ x }
+    ensures found { result < length s.now → slice_index s.now result ≡ x }
 {
-    for i in from..s.len() {
-        if s[i] == x {
-            return i;
-        }
-    }
-    s.len()
-}
-
-// The index behind the first x from index from on, or the end.
-fn after(s: &[u8], from: usize, x: u8) -> usize
-    requires { from ≤ length s.now }
-    ensures { (drop result s.now ≡ behind_of x (drop from s.now)) × (result ≤ length s.now) }
-{
-    let i = place(s, from, x);
-    if i < s.len() { i + 1 } else { i }
+    s.iter().position(|y| *y == x).unwrap_or(s.len())
 }
 
 fn up_to<'a>(s: &'a [u8], x: u8) -> &'a [u8]
     ensures { result.now ≡ up_to_of x s.now }
 {
-    let end = place(s, 0, x);
-    &s[0..end]
+    &s[..place(s, x)]
 }
 
 fn behind<'a>(s: &'a [u8], x: u8) -> &'a [u8]
     ensures { result.now ≡ behind_of x s.now }
 {
-    let start = after(s, 0, x);
-    &s[start..]
+    let i = place(s, x);
+    if i < s.len() { &s[i + 1..] } else { &s[i..] }
 }
 
 // Word k of a line.
 fn word<'a>(line: &'a [u8], k: usize) -> &'a [u8]
-    requires { k ≤ 12 }
     ensures { result.now ≡ word_of k line.now }
 {
-    let mut start = 0;
+    let mut rest = line;
     for _i in 0..k {
-        start = after(line, start, b' ');
+        rest = behind(rest, b' ');
     }
-    let end = place(line, start, b' ');
-    &line[start..end]
+    up_to(rest, b' ')
 }
 
 fn spaces(line: &[u8]) -> usize
     ensures { result ≡ counted space line.now }
 {
     let mut n = 0;
-    for i in 0..line.len() {
-        if line[i] == b' ' {
+    for x in line {
+        if *x == b' ' {
             n += 1;
         }
     }
@@ -98,24 +84,19 @@ fn case_count(line: &[u8], kind: usize) -> usize
     spaces(line).saturating_sub(kind + 2)
 }
 
-fn is_digit(x: u8) -> bool
-    ensures { result ≡ is_digit x }
+fn all_digits(s: &[u8]) -> bool
+    ensures { result ≡ list_all is_ascii_digit s.now }
 {
-    48 <= x && x <= 57
+    s.iter().all(|x| x.is_ascii_digit())
 }
 
 fn is_digits(s: &[u8]) -> bool
     ensures { result ≡ is_digits s.now }
 {
-    if s.len() < 1 {
+    if s.is_empty() {
         return false;
     }
-    for i in 0..s.len() {
-        if !is_digit(s[i]) {
-            return false;
-        }
-    }
-    true
+    all_digits(s)
 }
 
 // The number that digits write behind digits that wrote v, 15 digits in all at most.
@@ -125,8 +106,8 @@ fn value_from(v: u64, s: &[u8]) -> u64
     ensures { result ≡ value_from v s.now }
 {
     let mut n = v;
-    for i in 0..s.len() {
-        n = n * 10 + (u64::from(s[i]) - 48);
+    for x in s {
+        n = n * 10 + (u64::from(*x) - 48);
     }
     n
 }
@@ -198,23 +179,12 @@ fn digits_of(u: &[u8]) -> u64
     value_from(v, behind(u, b'.'))
 }
 
-fn ten_to(k: usize) -> u64
-    requires { k ≤ 15 }
-    ensures { result ≡ 10 ^ k }
-{
-    let mut n = 1;
-    for _i in 0..k {
-        n *= 10;
-    }
-    n
-}
-
 // The power of ten that the digits are divided by.
 fn scale_of(u: &[u8]) -> u64
     requires { is_unsigned u.now ≡ true }
     ensures { result ≡ scale_of u.now }
 {
-    ten_to(behind(u, b'.').len())
+    10u64.pow(behind(u, b'.').len() as u32)
 }
 
 // Rounded once: both whole numbers are binary64 numbers exactly.
@@ -357,7 +327,8 @@ fn is_fit(line: &[u8], kind: usize, k: usize) -> bool
     is_length(w)
 }
 
-// The first of n words behind the gate's name that is not as it should be.
+// The first of n words behind the gate's name that is not as it should be. Words are asked for by their number: a
+// line keeps no list of them.
 fn first_unfit(line: &[u8], kind: usize, n: usize) -> usize
     requires kind_bound { kind ≤ 2 }
     requires n_bound { n ≤ 11 }

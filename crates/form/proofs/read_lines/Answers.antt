@@ -8,7 +8,8 @@ use lib.ListN.{length, length-take, length-drop}
 use borrow.Author.Tests.{not-true, not-false, lt-ltb, le-ltb}
 use Rattle.text.proofs.PenLaws.{text_as}
 use Rattle.form.specs.Forms.{Reading}
-use Rattle.form.proofs.LineLaws.{line_cut}
+use Rattle.form.specs.Lines.{End}
+use Rattle.form.proofs.LineLaws.{up_to_is, line_cut}
 use Rattle.form.proofs.FieldLaws.{in_table}
 use Rattle.form.proofs.ReadLaws.{read_as, begin, page, ended, pass, add, wrong}
 use Rattle.form.proofs.read_lines.Goals as goal
@@ -23,7 +24,7 @@ is_field-requires c = simp (length-take, length-drop) (omega (arith, c.requires)
 pub returns-then-not-is_field : goal.returns-then-not-is_field
 returns-then-not-is_field c =
     let v = c.loop-at.invariant in
-    let l = line_cut c.args.text.now c.loop-at.at c.up_to-n.result c.up_to-n.ensures.value in
+    let l = line_cut c.args.text.now c.loop-at.at c.up_to-n.result (up_to_is End _ _ c.up_to-n.ensures.within (λ k l. sym (c.up_to-n.ensures.before k l)) (λ l. sym (c.up_to-n.ensures.found l))) in
     let e = wrong v.read _ _ (omega arith) l.0 l.1 (sym c.is_passed_over.ensures ∙ not-true _ (ap not c.if-not-is_passed_over.true))
     (sym c.is_field.ensures ∙ not-true _ (ap not c.if-not-is_field.true)) in record {
       value = sym (ap (λ (r : Reading). r.formed) e);
@@ -36,9 +37,9 @@ put_field-requires c = (simp (length-take, length-drop) (omega (arith, c.require
 pub loop-at-preserved : goal.loop-at-preserved
 loop-at-preserved c =
     let v = c.loop-at.invariant in
-    let l = line_cut c.args.text.now c.loop-at.at c.up_to-n.result c.up_to-n.ensures.value in
+    let l = line_cut c.args.text.now c.loop-at.at c.up_to-n.result (up_to_is End _ _ c.up_to-n.ensures.within (λ k l. sym (c.up_to-n.ensures.before k l)) (λ l. sym (c.up_to-n.ensures.found l))) in
     let h : c.loop-at.at < length c.args.text.now = omega arith in
-    let n = simp (length-take, length-drop) at c.up_to-n.ensures.upper_bound in
+    let n = simp (length-take, length-drop) at c.up_to-n.ensures.within in
     elim c.if-not-is_passed_over.branch [
       | then-not-is_passed_over+else-not-is_field w ↦
           let t = sym w.is_field.ensures ∙ not-false _ (ap not w.if-not-is_field.false) in record {

@@ -1,63 +1,68 @@
 -- The whole is a number exactly if what is left from i on are digits that say one behind v, which is what the first i digits say; a byte that is no
 -- digit says no, and so does a digit that makes it too large, since those behind it do not make it smaller.
 use mathlib.Core.Bool.{not}
-use Prim.Native.Nat.{◌+◌, ◌-◌, ◌*◌}
+use Prim.Native.Nat.{ℕ, ◌+◌, ◌-◌, ◌*◌, ◌<◌}
 use mathlib.Core.Path.{◌≡◌, refl, sym, ◌∙◌, ap}
 use native.Mathlib.Omega.{arith}
 use lib.ListN.{get_or, drop}
-use borrow.Author.Tests.{not-true, not-false}
+use borrow.Author.Tests.{not-true, not-false, eqb-true, eqb-false}
 use Rattle.form.specs.Digits.{is_digit, number_from}
-use Rattle.form.proofs.DigitLaws.{digit_low, every_turn, every_not, every_end, number_turn, number_end, number_grows, is_number_lem, no_digits, no_digit, too_large}
-use borrow.Author.Rules.{rules}
+use Rattle.form.proofs.DigitLaws.{digit_as, every_turn, every_not, every_end, number_turn, number_end, number_grows, is_number_lem, no_digits, no_digit, too_large}
 use Rattle.form.proofs.digits.number_of.Goals as goal
 
-pub returns-then-n-eq0 : goal.returns-then-n-eq0
-returns-then-n-eq0 c =
+ne0 : {n : ℕ} → (n ≡ 0 → ⊥) → 0 < n
+ne0 {n} h = omega (arith, h)
+
+pub returns-then-is_empty : goal.returns-then-is_empty
+returns-then-is_empty c =
     let a = c.args in
-    rw (no_digits a.most a.digits.now c.if-n-eq0.true)
+    rw (no_digits a.most a.digits.now (eqb-true _ 0 (sym c.is_empty.ensures ∙ c.if-is_empty.true)))
 
-pub loop-i-init : goal.loop-i-init
-loop-i-init c = (search rules, (search rules, (search rules, (search rules, (refl, refl)))))
+pub loop-x-init : goal.loop-x-init
+loop-x-init c = record {
+  some = ne0 (eqb-false _ 0 (sym c.is_empty.ensures ∙ c.if-is_empty.false));
+  most = omega arith;
+  digits = refl;
+  value = refl;
+}
 
-pub returns-then-not-is_digit : goal.returns-then-not-is_digit
-returns-then-not-is_digit c =
+pub returns-then-not-is_ascii_digit : goal.returns-then-not-is_ascii_digit
+returns-then-not-is_ascii_digit c =
     let a = c.args in
-    let e = every_not is_digit a.digits.now c.loop-i.i (omega arith) (sym c.is_digit.ensures ∙ not-true _ (ap not c.if-not-is_digit.true)) in
-    rw (no_digit a.most a.digits.now (c.loop-i.invariant.1.1.1.1.0 ∙ e))
-
-pub overflow_sub-d : goal.overflow_sub-d
-overflow_sub-d c = digit_low _ (sym c.is_digit.ensures ∙ not-false _ (ap not c.if-not-is_digit.false))
-
-pub overflow_cast-d : goal.overflow_cast-d
-overflow_cast-d c = search (rules, c.shared_slice_known-in-loop-i-1.given c.loop-i.i)
+    let e = every_not is_digit a.digits.now c.loop-x.x-index (omega arith) (sym (c.is_ascii_digit.ensures.value ∙ digit_as _) ∙ not-true _ (ap not c.if-not-is_ascii_digit.true)) in
+    rw (no_digit a.most a.digits.now (c.loop-x.invariant.digits ∙ e))
 
 pub returns-then-most-d : goal.returns-then-most-d
 returns-then-most-d c =
     let a = c.args in
-    let i = c.loop-i.i in
-    let e = number_turn c.loop-i.v a.digits.now i (omega arith) in
-    let g = number_grows (10 * c.loop-i.v + (get_or a.digits.now i 0 - 48)) (drop (i + 1) a.digits.now) in
-    rw (too_large a.most a.digits.now (omega (arith, c.loop-i.invariant.1.1.1.1.1, c.if-most-d.true)))
+    let i = c.loop-x.x-index in
+    let e = number_turn c.loop-x.v a.digits.now i (omega arith) in
+    let g = number_grows (10 * c.loop-x.v + (get_or a.digits.now i 0 - 48)) (drop (i + 1) a.digits.now) in
+    rw (too_large a.most a.digits.now (omega (arith, c.loop-x.invariant.value, c.if-most-d.true, c.from-d.ensures)))
 
 pub returns-then-most-d-2 : goal.returns-then-most-d-2
 returns-then-most-d-2 c =
     let a = c.args in
-    let i = c.loop-i.i in
-    let e = number_turn c.loop-i.v a.digits.now i (omega arith) in
-    let g = number_grows (10 * c.loop-i.v + (get_or a.digits.now i 0 - 48)) (drop (i + 1) a.digits.now) in
-    rw (too_large a.most a.digits.now (omega (arith, c.loop-i.invariant.1.1.1.1.1, c.if-most-d-2.true)))
+    let i = c.loop-x.x-index in
+    let e = number_turn c.loop-x.v a.digits.now i (omega arith) in
+    let g = number_grows (10 * c.loop-x.v + (get_or a.digits.now i 0 - 48)) (drop (i + 1) a.digits.now) in
+    rw (too_large a.most a.digits.now (omega (arith, c.loop-x.invariant.value, c.if-most-d-2.true, c.from-d.ensures)))
 
-pub loop-i-preserved : goal.loop-i-preserved
-loop-i-preserved c =
+pub loop-x-preserved : goal.loop-x-preserved
+loop-x-preserved c =
     let s = c.args.digits.now in
-    let i = c.loop-i.i in
-    let v = c.loop-i.invariant.1.1 in
-    let e = every_turn is_digit s i (omega arith) (sym c.is_digit.ensures ∙ not-false _ (ap not c.if-not-is_digit.false)) in
-    (search rules, (c.loop-i.invariant.1.0, (v.0, (omega arith, (v.1.1.0 ∙ e, v.1.1.1 ∙ number_turn c.loop-i.v s i (omega arith))))))
+    let i = c.loop-x.x-index in
+    let v = c.loop-x.invariant in
+    let e = every_turn is_digit s i (omega arith) (sym (c.is_ascii_digit.ensures.value ∙ digit_as _) ∙ not-false _ (ap not c.if-not-is_ascii_digit.false)) in record {
+      some = v.some;
+      most = omega arith;
+      digits = v.digits ∙ e;
+      value = v.value ∙ number_turn c.loop-x.v s i (omega arith) ∙ rw c.from-d.ensures refl;
+    }
 
 pub returns : goal.returns
 returns c =
     let a = c.args in
-    let v = c.loop-i.invariant.1.1 in
-    let e : number_from 0 a.digits.now ≡ c.loop-i.v = v.1.1.1 ∙ number_end c.loop-i.v a.digits.now c.loop-i.i (omega arith) in
-    rw (is_number_lem a.most a.digits.now (omega arith) (v.1.1.0 ∙ every_end is_digit a.digits.now c.loop-i.i (omega arith)) (omega arith), e)
+    let v = c.loop-x.invariant in
+    let e : number_from 0 a.digits.now ≡ c.loop-x.v = v.value ∙ number_end c.loop-x.v a.digits.now c.loop-x.x-index (omega arith) in
+    rw (is_number_lem a.most a.digits.now v.some (v.digits ∙ every_end is_digit a.digits.now c.loop-x.x-index (omega arith)) (omega arith), e)

@@ -1,30 +1,24 @@
-use mathlib.Core.Path.{sym, ◌∙◌}
-use native.Mathlib.Omega.{arith}
-use Rattle.form.specs.Digits.{worth}
-use Rattle.form.proofs.DigitLaws.{within_low, digit_low}
+use Rattle.std.proofs.Common.{sym, arith}
+use Rattle.form.proofs.DigitLaws.{worth_digit, worth_small, worth_large, worth_none}
 use Rattle.form.proofs.digits.worth_of.Goals as goal
 
-pub overflow_sub-result : goal.overflow_sub-result
-overflow_sub-result c = digit_low _ (sym c.is_digit.ensures ∙ c.if-is_digit.true)
+pub returns-in-48-to-57 : goal.returns-in-48-to-57
+returns-in-48-to-57 c = sym (worth_digit c.args.x (omega arith) (omega arith))
 
-pub returns-then-is_digit : goal.returns-then-is_digit
-unfolding worth
-returns-then-is_digit c = rw (sym c.is_digit.ensures ∙ c.if-is_digit.true)
+pub returns-in-65-to-70 : goal.returns-in-65-to-70
+returns-in-65-to-70 c = sym (worth_large c.args.x (omega arith) (omega arith))
 
-pub overflow_sub-result-then-is_within : goal.overflow_sub-result-then-is_within
-overflow_sub-result-then-is_within c = omega (arith, within_low 97 102 _ (sym c.is_within.ensures ∙ c.if-is_within.true))
+pub returns-in-97-to-102 : goal.returns-in-97-to-102
+returns-in-97-to-102 c = sym (worth_small c.args.x (omega arith) (omega arith))
 
-pub returns-then-is_within : goal.returns-then-is_within
-unfolding worth
-returns-then-is_within c = rw (sym c.is_digit.ensures ∙ c.if-is_digit.false, sym c.is_within.ensures ∙ c.if-is_within.true)
+pub returns-in_default : goal.returns-in_default
+returns-in_default c = sym (worth_none c.args.x (λ h. omega arith) (λ h. omega arith) (λ h. omega arith))
 
-pub overflow_sub-result-then-is_within-2 : goal.overflow_sub-result-then-is_within-2
-overflow_sub-result-then-is_within-2 c = omega (arith, within_low 65 70 _ (sym c.is_within-2.ensures ∙ c.if-is_within-2.true))
+pub returns-in_default-2 : goal.returns-in_default-2
+returns-in_default-2 c = sym (worth_none c.args.x (λ h. omega arith) (λ h. omega arith) (λ h. omega arith))
 
-pub returns-then-is_within-2 : goal.returns-then-is_within-2
-unfolding worth
-returns-then-is_within-2 c = rw (sym c.is_digit.ensures ∙ c.if-is_digit.false, sym c.is_within.ensures ∙ c.if-is_within.false, sym c.is_within-2.ensures ∙ c.if-is_within-2.true)
+pub returns-in_default-3 : goal.returns-in_default-3
+returns-in_default-3 c = sym (worth_none c.args.x (λ h. omega arith) (λ h. omega arith) (λ h. omega arith))
 
-pub returns : goal.returns
-unfolding worth
-returns c = rw (sym c.is_digit.ensures ∙ c.if-is_digit.false, sym c.is_within.ensures ∙ c.if-is_within.false, sym c.is_within-2.ensures ∙ c.if-is_within-2.false)
+pub returns-in_default-4 : goal.returns-in_default-4
+returns-in_default-4 c = sym (worth_none c.args.x (λ h. omega arith) (λ h. omega arith) (λ h. omega arith))

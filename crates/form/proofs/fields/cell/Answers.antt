@@ -1,6 +1,5 @@
 use mathlib.Core.Path.{ap, ◌∙◌}
-use Rattle.form.specs.declared.lines.Stop.TheVariants.{Blank}
-use Rattle.form.specs.Lines.{up_to}
+use Rattle.form.specs.Lines.{Blank, up_to}
 use Rattle.form.proofs.FieldLaws.{cells, name_at}
 use borrow.Author.Rules.{rules}
 use Rattle.form.proofs.fields.cell.Goals as goal

@@ -1,15 +1,12 @@
-use borrow.Author.Tests.{eq-eqb, ne_eqb}
+use mathlib.Core.Logic.{⊎_elim}
+use Rattle.std.proofs.Common.{arith, ne_eqb}
 use Rattle.form.specs.Lines.{is_blank}
 use Rattle.form.proofs.lines.is_blank.Goals as goal
 
-pub returns-then-x-eq32 : goal.returns-then-x-eq32
+pub returns-in-32 : goal.returns-in-32
 unfolding is_blank
-returns-then-x-eq32 c = rw (eq-eqb _ 32 c.if-x-eq32.true)
+returns-in-32 c = ⊎_elim (λ e. rw e) (λ r. ⊎_elim (λ e. rw e) (λ e. rw e) r) c.in-32.is
 
-pub returns-then-x-eq9 : goal.returns-then-x-eq9
+pub returns-in_default : goal.returns-in_default
 unfolding is_blank
-returns-then-x-eq9 c = rw (ne_eqb _ 32 c.if-x-eq32.false, eq-eqb _ 9 c.if-x-eq9.true)
-
-pub returns : goal.returns
-unfolding is_blank
-returns c = rw (ne_eqb _ 32 c.if-x-eq32.false, ne_eqb _ 9 c.if-x-eq9.false)
+returns-in_default c = rw (ne_eqb c.args.x 32 (λ e. grind arith), ne_eqb c.args.x 9 (λ e. grind arith), ne_eqb c.args.x 13 (λ e. grind arith))

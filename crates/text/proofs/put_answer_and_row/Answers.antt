@@ -1,9 +1,0 @@
-use mathlib.Core.Path.{refl}
-use native.Mathlib.Omega.{arith}
-use Rattle.text.specs.Answers.{answer_and_row}
-use Rattle.text.proofs.PenLaws.{then, text_as}
-use Rattle.text.proofs.put_answer_and_row.Goals as goal
-
-pub returns : goal.returns
-unfolding answer_and_row
-returns c = text_as (omega arith) refl (then c.put_answer_line-answered.ensures c.put_spent_row.ensures)

@@ -1,9 +1,0 @@
-use mathlib.Core.Path.{refl}
-use native.Mathlib.Omega.{arith}
-use Rattle.text.specs.Answers.{answer_line}
-use Rattle.text.proofs.PenLaws.{then, text_as}
-use Rattle.text.proofs.put_answer_line.Goals as goal
-
-pub returns : goal.returns
-unfolding answer_line
-returns c = text_as (omega arith) refl (then c.put_answer-next.ensures c.put.ensures)

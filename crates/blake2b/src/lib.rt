@@ -3,9 +3,9 @@
 // keeps it in registers. What is hashed, and under which name, is left to the crates above.
 #![tactic(auto)]
 
-ghost use Rattle.std.specs.Prelude.{◌≡◌, ◌+◌, ◌-◌, ◌*◌, ◌%◌, ◌^◌, ◌<◌, ◌≤◌, ◌++◌, length, slice_index};
+ghost use Rattle.std.specs.Prelude.{◌≡◌, ◌+◌, ◌-◌, ◌*◌, ◌%◌, ◌^◌, ◌<◌, ◌≤◌, ◌++◌, length};
 ghost use Rattle.octets.specs.Parts.{zeros, listed, field};
-ghost use Rattle.blake2b.specs.Compression.{plus as plus_of, turn as turn_of, half as half_of, G, sigma, picked, step as step_of, columns as columns_of, diagonals as diagonals_of, round as round_of, rounds as rounds_of, word_at, bytes_of, flag as flag_of, start as start_of, feed as feed_of, F};
+ghost use Rattle.blake2b.specs.Compression.{plus as plus_of, turn as turn_of, half as half_of, G, picked, step as step_of, columns as columns_of, diagonals as diagonals_of, round as round_of, rounds as rounds_of, word_at, bytes_of, flag as flag_of, start as start_of, feed as feed_of, F};
 ghost use Rattle.blake2b.specs.Answer.{digest_of};
 ghost use Rattle.blake2b.specs.Hashing.{initial as initial_of, last_block, absorbed, blake2b_of};
 

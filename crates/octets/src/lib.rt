@@ -3,7 +3,7 @@
 // What the bytes mean is left to the crates above.
 #![tactic(auto)]
 
-ghost use Rattle.std.specs.Prelude.{◌≡◌, [], ◌∷◌, ◌+◌, ◌-◌, ◌≤◌, ◌<◌, length, get_or};
+ghost use Rattle.std.specs.Prelude.{◌≡◌, [], ◌∷◌, ◌+◌, ◌-◌, ◌<◌, length, get_or};
 ghost use Rattle.octets.specs.Parts.{field, fits_in, pasted, same as same_of};
 ghost use Rattle.octets.specs.Numbers.{little, big, little_bytes, big_bytes};
 

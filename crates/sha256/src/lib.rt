@@ -3,7 +3,7 @@
 // What is hashed, and why, is left to the crates above.
 #![tactic(auto)]
 
-ghost use Rattle.std.specs.Prelude.{◌≡◌, ◌∷◌, ◌++◌, ◌+◌, ◌-◌, ◌*◌, ◌/◌, ◌%◌, ◌^◌, ◌≤◌, ◌<◌, length, get_or, set};
+ghost use Rattle.std.specs.Prelude.{◌≡◌, ◌∷◌, ◌++◌, ◌+◌, ◌-◌, ◌*◌, ◌/◌, ◌%◌, ◌^◌, ◌≤◌, ◌<◌, length, set};
 ghost use Rattle.octets.specs.Parts.{zeros, listed};
 ghost use Rattle.octets.specs.Numbers.{big_bytes};
 ghost use Rattle.sha256.specs.Compression.{Ch, Maj, Σ0, Σ1, σ0, σ1, k_list, start_of, word_at, next_word, schedule_of, round_of, rounds as rounds_of, plus_of, compress_from, state_bytes, compress_of};

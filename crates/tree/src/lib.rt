@@ -3,7 +3,7 @@
 // own path leads there, are theorems of proofs/Grown.antt. Which leaves there are is left to `ledger`.
 #![tactic(auto)]
 
-ghost use Rattle.std.specs.Prelude.{◌≡◌, ◌+◌, ◌≤◌, ◌<◌, ◌*◌, length};
+ghost use Rattle.std.specs.Prelude.{◌≡◌, ◌+◌, ◌<◌, ◌*◌};
 ghost use Rattle.octets.specs.Parts.{field, fits_in, pasted};
 ghost use Rattle.octets.specs.Rows.{rows_of, flat};
 ghost use Rattle.nodes.specs.Trees.{push, join_of};

@@ -15,7 +15,7 @@ ADDED_TYPE = re.compile(r"struct (\w+)\(.*\); impl \1 \{ fn ")
 ONE_LINE = re.compile(r"^(fn .*?\)(?: -> [^{\n]+?)?)((?:\nrequires)*) \{ (.*) \}$", re.M)
 CLAUSE = re.compile(r"[ \n]+(requires|ensures)(?: \w+)? \{")
 COUNTED = {("judge", "compare")}  # functions whose calls are counted, each by its crate
-ENDLESS = {("slices", "ancestor")}  # functions that take as many turns as they are told, so that none is drawn
+ENDLESS = {("slices", "ancestor"), ("packing", "word")}  # functions that take as many turns as they are told, so that none is drawn
 MODEL = re.compile(r"^use std::marker::Model;\n|^impl\b[^\n{]* Model for [^\n{]*\{\n.*?^\}\n", re.M | re.S)  # what a struct means to the prover
 SIZED = "200"  # the size of a type that has one, where its functions are called by themselves
 NUMBER = re.compile(r"^(?:pub )?const (\w+): \w+ = (\d+);", re.M)

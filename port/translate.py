@@ -15,7 +15,7 @@ ADDED_TYPE = re.compile(r"struct (\w+)\(.*\); impl \1 \{ fn ")
 ONE_LINE = re.compile(r"^(fn .*?\)(?: -> [^{\n]+?)?)((?:\nrequires)*) \{ (.*) \}$", re.M)
 CLAUSE = re.compile(r"[ \n]+(requires|ensures)(?: \w+)? \{")
 COUNTED = {("judge", "compare")}  # functions whose calls are counted, each by its crate
-ENDLESS = {("slices", "ancestor")}  # functions that take as many turns as they are told, so that none is drawn
+ENDLESS = {("slices", "ancestor"), ("packing", "word")}  # functions that take as many turns as they are told, so that none is drawn
 MODEL = re.compile(r"^use std::marker::Model;\n|^impl\b[^\n{]* Model for [^\n{]*\{\n.*?^\}\n", re.M | re.S)  # what a struct means to the prover
 SIZED = "200"  # the size of a type that has one, where its functions are called by themselves
 NUMBER = re.compile(r"^(?:pub )?const (\w+): \w+ = (\d+);", re.M)
@@ -234,8 +234,8 @@ def plain(crate, modules, text):
     text = re.sub(r"^use (?!crate|std)(\w+)::", r"use crate::\1::", text, flags=re.M)
     text = text.replace("std::num::wrapping_add_u64(", "u64::wrapping_add(")
     text = re.sub(r"std::num::nearest_u64_to_f64\((.*)\);", r"(\1) as f64;", text)
-    text = re.sub(r"^(\s*)while (.*) \{$", r"\1while crate::turn() && (\2) {", text, flags=re.M)
-    text = re.sub(r"^(\s*for _ in 0\.\.u64::MAX \{)$", r"\1 crate::turn();", text, flags=re.M)
+    text = re.sub(r"^(\s*)while (?!let )(.*) \{$", r"\1while crate::turn() && (\2) {", text, flags=re.M)
+    text = re.sub(r"^(\s*(?:for _ in 0\.\.u64::MAX|while let .*) \{)$", r"\1 crate::turn();", text, flags=re.M)
     text = text.replace('extern "C" ', "")
     text = re.sub(r"^(\s*)(?:pub )?(struct|enum|fn|const|mod) ", r"\1pub \2 ", text, flags=re.M)
     return re.sub(r"^pub (struct|enum) ", r"#[derive(Clone, Copy, Debug)]\npub \1 ", text, flags=re.M)

@@ -184,16 +184,6 @@ impl<T: Draw> Draw for Vec<T> {
     }
 }
 
-impl<T: Draw, E: Draw> Draw for Result<T, E> {
-    fn draw(d: &mut Dice) -> Result<T, E> {
-        if d.draw() {
-            Ok(d.draw())
-        } else {
-            Err(d.draw())
-        }
-    }
-}
-
 impl Draw for crate::HostRuntime {
     fn draw(_: &mut Dice) -> crate::HostRuntime {
         crate::HostRuntime

@@ -14,6 +14,9 @@ use books::{DayRow, Tally};
 use text::Page;
 use units::Row;
 
+// A page with room for all lines.
+type Sheet = Page<4096>;
+
 // An answer of the day, and the row that it is entered in.
 #[derive(Clone, Copy)]
 pub struct Entry {
@@ -49,7 +52,7 @@ fn entries() -> [Entry; 7]
     ]
 }
 
-fn put_yes_or_no(page: &mut Page<4096>, yes: bool)
+fn put_yes_or_no(page: &mut Sheet, yes: bool)
     ensures { Wrote 4 (yes_or_no yes) page.old page.new }
 {
     if yes {
@@ -60,7 +63,7 @@ fn put_yes_or_no(page: &mut Page<4096>, yes: bool)
 }
 
 // A word and three numbers.
-fn put_three(page: &mut Page<4096>, word: &[u8], a: u32, b: u32, c: u32)
+fn put_three(page: &mut Sheet, word: &[u8], a: u32, b: u32, c: u32)
     ensures { Wrote (length word.now + 64) (three_line word.now a b c) page.old page.new }
 {
     page.put(word);
@@ -70,7 +73,7 @@ fn put_three(page: &mut Page<4096>, word: &[u8], a: u32, b: u32, c: u32)
     page.put(b"\n");
 }
 
-fn put_row(page: &mut Page<4096>, r: DayRow)
+fn put_row(page: &mut Sheet, r: DayRow)
     ensures { Wrote 67 (day_row_line r) page.old page.new }
 {
     put_three(
@@ -83,7 +86,7 @@ fn put_row(page: &mut Page<4096>, r: DayRow)
 }
 
 // The row in which an answer was to be entered, and whether there is one.
-fn put_entry(page: &mut Page<4096>, row: Row, ok: bool)
+fn put_entry(page: &mut Sheet, row: Row, ok: bool)
     ensures { Wrote 31 (enter_line row.0 ok) page.old page.new }
 {
     page.put(b"enter");
@@ -92,14 +95,14 @@ fn put_entry(page: &mut Page<4096>, row: Row, ok: bool)
     page.put(b"\n");
 }
 
-fn put_tally(page: &mut Page<4096>, t: Tally)
+fn put_tally(page: &mut Sheet, t: Tally)
     ensures { Wrote 69 (tally_line t) page.old page.new }
 {
     put_three(page, b"tally", t.seen, t.passed, t.refused);
 }
 
 // Whether an answer was counted, and the tally as it then stands.
-fn put_counted(page: &mut Page<4096>, ok: bool, t: Tally)
+fn put_counted(page: &mut Sheet, ok: bool, t: Tally)
     ensures { Wrote 79 (count_line (counted ok t)) page.old page.new }
 {
     page.put(b"count");
@@ -108,7 +111,7 @@ fn put_counted(page: &mut Page<4096>, ok: bool, t: Tally)
     put_tally(page, t);
 }
 
-fn put_list(page: &mut Page<4096>, rows: &[DayRow; 4])
+fn put_list(page: &mut Sheet, rows: &[DayRow; 4])
     ensures { Wrote 268 (flat_map day_row_line rows.now) page.old page.new }
 {
     for r in rows {
@@ -127,7 +130,7 @@ fn empty() -> Tally
 }
 
 // The day's answers, each entered and counted; then the list and the tally.
-fn put_day(page: &mut Page<4096>)
+fn put_day(page: &mut Sheet)
     ensures { Wrote 1107 whole_day page.old page.new }
 {
     let none = DayRow {
@@ -148,7 +151,7 @@ fn put_day(page: &mut Page<4096>)
 }
 
 // A pass and then a refusal, each counted in place.
-fn put_both_in_place(page: &mut Page<4096>, mut t: Tally)
+fn put_both_in_place(page: &mut Sheet, mut t: Tally)
     ensures { Wrote 158 (both_lines t) page.old page.new }
 {
     let passed = books::count(&mut t, true);
@@ -158,7 +161,7 @@ fn put_both_in_place(page: &mut Page<4096>, mut t: Tally)
 }
 
 // The same by value: another call of the books, whose two answers come back in one.
-fn put_both_by_value(page: &mut Page<4096>, t: Tally)
+fn put_both_by_value(page: &mut Sheet, t: Tally)
     ensures { Wrote 158 (both_lines t) page.old page.new }
 {
     let passed = books::counted(t, true);
@@ -169,7 +172,7 @@ fn put_both_by_value(page: &mut Page<4096>, t: Tally)
 }
 
 // Both, from a tally of any counts.
-fn put_from(page: &mut Page<4096>, seen: u32, passed: u32, refused: u32)
+fn put_from(page: &mut Sheet, seen: u32, passed: u32, refused: u32)
     ensures { Wrote 316 (from_lines (tally_with seen passed refused)) page.old page.new }
 {
     let t = Tally {
@@ -182,7 +185,7 @@ fn put_from(page: &mut Page<4096>, seen: u32, passed: u32, refused: u32)
 }
 
 // Tallies that are full or nearly so.
-fn put_full(page: &mut Page<4096>)
+fn put_full(page: &mut Sheet)
     ensures { Wrote 1264 full_lines page.old page.new }
 {
     put_from(page, 4294967294, 4294967294, 0);
@@ -195,7 +198,7 @@ fn put_full(page: &mut Page<4096>)
 fn render() -> Page<4096>
     ensures { Holds 4096 all_lines result }
 {
-    let mut page = Page::new();
+    let mut page = Sheet::new();
     put_day(&mut page);
     put_full(&mut page);
     page

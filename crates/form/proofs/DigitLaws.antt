@@ -13,8 +13,9 @@ use native.Mathlib.Decide.{dec_le}
 use native.Mathlib.Nat.{lt_of_not-le}
 use Rattle.std.specs.Option.{is_some}
 use lib.Dec.{eqb, leb}
-use lib.ListN.{length, get_or, drop, drop_of_length-le}
-use lib.Seq.{drop-cons}
+use lib.ListN.{length, get_or, take, drop, drop_of_length-le}
+use lib.Seq.{take_all, drop-cons}
+use Rattle.text.specs.Pen.{Pen, written}
 use borrow.Author.Tests.{leb-true, ltb-true, le-leb, lt-leb, eq-eqb, ne_eqb}
 use Rattle.octets.proofs.BoolLaws.{and_both}
 use Rattle.form.specs.Digits.{every, is_within, is_digit, number_from, is_number, worth, is_hex_digit, is_hex, bytes_in}
@@ -134,15 +135,25 @@ bytes_in_length [] = refl
 bytes_in_length (x ∷ []) = refl
 bytes_in_length (x ∷ y ∷ s) = omega (arith, bytes_in_length s)
 
-pub bytes_in_at : (s : List ℕ) (i : ℕ) → i < length s / 2 → get_or (bytes_in s) i 0 ≡ 16 * worth (get_or s (2 * i) 0) + worth (get_or s (2 * i + 1) 0)
+-- a pair, and what is behind it, as code cuts it off; and where there is no pair
+pub pair_hex : (f : ℕ → Bool) (s : List ℕ) → 2 ≤ length s → every f s ≡ true → every f (take (length s - 2) (drop 2 s)) ≡ true
+unfolding every
+pair_hex f [] h e = absurd (omega arith)
+pair_hex f (x ∷ []) h e = absurd (omega arith)
+pair_hex f (x ∷ y ∷ s) h e = rw (take_all (length (x ∷ y ∷ s) - 2) s (omega arith)) (and_both (f y) (every f s) (and_both (f x) _ e).1).1
+
+pub pair_put : (s : List ℕ) (p q : Pen) (b : ℕ) → 2 ≤ length s → b ≡ 16 * worth (get_or s 0 0) + worth (get_or s 1 0) → q ≡ written (b ∷ []) p
+    → written (bytes_in (take (length s - 2) (drop 2 s))) q ≡ written (bytes_in s) p
+unfolding bytes_in written
+pair_put [] p q b h e f = absurd (omega arith)
+pair_put (x ∷ []) p q b h e f = absurd (omega arith)
+pair_put (x ∷ y ∷ s) p q b h e f = rw (take_all (length (x ∷ y ∷ s) - 2) s (omega arith), f, e)
+
+pub no_pair : (s : List ℕ) → length s < 2 → bytes_in s ≡ []
 unfolding bytes_in
-bytes_in_at [] i h = absurd (omega arith)
-bytes_in_at (x ∷ []) i h = absurd (omega arith)
-bytes_in_at (x ∷ y ∷ s) zero h = refl
-bytes_in_at (x ∷ y ∷ s) (suc i) h =
-    let e : 2 * suc i ≡ suc (suc (2 * i)) = omega arith in
-    let f : 2 * suc i + 1 ≡ suc (suc (2 * i + 1)) = omega arith in
-    rw (f, e) (bytes_in_at s i (omega arith))
+no_pair [] h = refl
+no_pair (x ∷ []) h = refl
+no_pair (x ∷ y ∷ s) h = absurd (omega arith)
 
 -- an answer says whether the digits say a number
 pub some_if : (b : Bool) (v : ℕ) → is_some (cond b (Some v) None) ≡ b

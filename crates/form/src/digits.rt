@@ -83,12 +83,14 @@ fn byte_of(high: u8, low: u8) -> u8
     16 * worth_of(high) + worth_of(low)
 }
 
-// The bytes that hexadecimal digits say. A pair is taken by its number, as `bytes_in` counts it.
+// The bytes that hexadecimal digits say.
 pub fn put_bytes(page: &mut Page<4210>, digits: &[u8])
     requires { every is_hex_digit digits.now ≡ true }
     ensures { Wrote (length digits.now / 2) (bytes_in digits.now) page.old page.new }
 {
-    for i in 0..digits.len() / 2 {
-        page.put(&[byte_of(digits[2 * i], digits[2 * i + 1])]);
+    let mut rest = digits;
+    while let [high, low, behind @ ..] = rest {
+        page.put(&[byte_of(*high, *low)]);
+        rest = behind;
     }
 }

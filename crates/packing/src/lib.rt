@@ -18,6 +18,9 @@ ghost use Rattle.packing.specs.declared.PackingError.TheVariants.{OtherBytes};
 
 use text::Page;
 
+// A page with room for the longest line and the longest bag.
+type Sheet = Page<65616>;
+
 // What is wrong with the input first. A word is named by its number, counted from 1. Where the cases have other
 // bytes than were named: how many there are, and how many were named.
 #[derive(Clone, Copy, Debug, PartialEq, Eq)]
@@ -212,14 +215,14 @@ fn number_bits(w: &[u8]) -> u64
     f64::to_bits(q)
 }
 
-fn put_float(page: &mut Page<65616>, w: &[u8])
+fn put_float(page: &mut Sheet, w: &[u8])
     ensures { Wrote 8 (float_bytes (number_of w.now)) page.old page.new }
 {
     page.put(&octets::le_bytes64(number_bits(w)));
 }
 
 // The limit in word k, which gates from kind k on use; of others zero bytes.
-fn put_limit(page: &mut Page<65616>, line: &[u8], kind: usize, k: usize)
+fn put_limit(page: &mut Sheet, line: &[u8], kind: usize, k: usize)
     requires { k ≤ 12 }
     ensures { Wrote 8 (limit_bytes kind k line.now) page.old page.new }
 {
@@ -231,7 +234,7 @@ fn put_limit(page: &mut Page<65616>, line: &[u8], kind: usize, k: usize)
 }
 
 // The seal's body.
-fn put_seal(page: &mut Page<65616>, line: &[u8], kind: usize)
+fn put_seal(page: &mut Sheet, line: &[u8], kind: usize)
     requires { kind ≤ 2 }
     ensures { Wrote 25 (seal_of kind line.now) page.old page.new }
 {
@@ -258,7 +261,7 @@ fn kind_named(w: &[u8]) -> Option<usize>
 }
 
 // A row of the table of contents.
-fn put_row(page: &mut Page<65616>, kind: u8, start: usize, size: usize)
+fn put_row(page: &mut Sheet, kind: u8, start: usize, size: usize)
     ensures { Wrote 9 (row kind start size) page.old page.new }
 {
     page.put(&[kind]);
@@ -266,8 +269,9 @@ fn put_row(page: &mut Page<65616>, kind: u8, start: usize, size: usize)
     page.put(&octets::le_bytes32((size % 4294967296) as u32));
 }
 
-// The rows of n cases, whose lengths stand from word k on; the first case starts at index first.
-fn put_rows(page: &mut Page<65616>, line: &[u8], k: usize, n: usize, first: usize)
+// The rows of n cases, whose lengths stand from word k on; the first case starts at index first. Words are asked for
+// by their number: a line keeps no list of them.
+fn put_rows(page: &mut Sheet, line: &[u8], k: usize, n: usize, first: usize)
     requires n_bound { n ≤ 7 }
     requires k_bound { k ≤ 5 }
     requires first_bound { first ≤ 99 }
@@ -282,7 +286,7 @@ fn put_rows(page: &mut Page<65616>, line: &[u8], k: usize, n: usize, first: usiz
 }
 
 // The bag: count, table of contents, seal, cases.
-fn put_bag(page: &mut Page<65616>, line: &[u8], bytes: &[u8], kind: usize, cases: usize)
+fn put_bag(page: &mut Sheet, line: &[u8], bytes: &[u8], kind: usize, cases: usize)
     requires kind_bound { kind ≤ 2 }
     requires cases_bound { cases ≤ 7 }
     requires line_value { sum (sizes_in kind cases line.now) ≡ length bytes.now }
@@ -388,14 +392,14 @@ fn verdict(line: &[u8], bytes: &[u8], kind: usize, cases: usize) -> Result<(), P
 }
 
 // A sentence with a number in it.
-fn put_sentence(page: &mut Page<65616>, before: &[u8], n: usize, behind: &[u8])
+fn put_sentence(page: &mut Sheet, before: &[u8], n: usize, behind: &[u8])
     ensures { Wrote (length before.now + 20 + length behind.now) (before.now ++ decimal n ++ behind.now) page.old page.new }
 {
     page.put_count(before, n as u64);
     page.put(behind);
 }
 
-fn put_other_bytes(page: &mut Page<65616>, there: usize, named: usize)
+fn put_other_bytes(page: &mut Sheet, there: usize, named: usize)
     ensures { Wrote 80 (error_line (OtherBytes there named)) page.old page.new }
 {
     page.put_count(b"bag: the cases have ", there as u64);
@@ -403,7 +407,7 @@ fn put_other_bytes(page: &mut Page<65616>, there: usize, named: usize)
 }
 
 // The line that says what is wrong.
-fn put_error(page: &mut Page<65616>, e: PackingError)
+fn put_error(page: &mut Sheet, e: PackingError)
     ensures { Wrote 80 (error_line e) page.old page.new }
 {
     match e {
@@ -423,7 +427,7 @@ fn put_error(page: &mut Page<65616>, e: PackingError)
 }
 
 // With a gate that has a name: the first line, and behind it the bag, if there is one.
-fn put_packed(page: &mut Page<65616>, line: &[u8], bytes: &[u8], kind: usize)
+fn put_packed(page: &mut Sheet, line: &[u8], bytes: &[u8], kind: usize)
     requires { kind ≤ 2 }
     ensures { Wrote 65616 (packed_from kind (count_of kind line.now) line.now bytes.now) page.old page.new }
 {
@@ -438,7 +442,7 @@ fn put_packed(page: &mut Page<65616>, line: &[u8], bytes: &[u8], kind: usize)
 }
 
 // The same, or a line that says that the gate has no name.
-fn put_text(page: &mut Page<65616>, line: &[u8], bytes: &[u8])
+fn put_text(page: &mut Sheet, line: &[u8], bytes: &[u8])
     ensures { Wrote 65616 (text_by line.now bytes.now) page.old page.new }
 {
     match kind_named(word(line, 0)) {
@@ -452,7 +456,7 @@ fn put_text(page: &mut Page<65616>, line: &[u8], bytes: &[u8])
 pub fn pack(input: &[u8]) -> Page<65616>
     ensures { Holds 65616 (text_of input.now) result }
 {
-    let mut page = Page::new();
+    let mut page = Sheet::new();
     put_text(&mut page, up_to(input, b'\n'), behind(input, b'\n'));
     page
 }

@@ -27,8 +27,12 @@ use text::Page;
 use tree::Tree;
 use units::Amount;
 
+// A page with room for the longest text of an entry.
+type Sheet = Page<219136>;
+
 // What is kept from entry to entry: the ledger, how many bytes of each buffer are lent to it, and
-// whether the run goes on.
+// whether the run goes on. The buffers are handed beside it: an entry that only looks is lent them for
+// reading, which the contract then need not promise, and no one struct could be lent so by halves.
 #[derive(Clone, Copy)]
 pub struct State {
     pub on: bool,
@@ -89,7 +93,7 @@ fn bits_of(pull: f64) -> u64
 }
 
 // A word and bytes as hexadecimal digits: a row, a root or a hash.
-fn put_named(page: &mut Page<219136>, word: &[u8], bytes: &[u8; 32])
+fn put_named(page: &mut Sheet, word: &[u8], bytes: &[u8; 32])
     ensures { Wrote (length word.now + 64) (word.now ++ hex bytes.now) page.old page.new }
 {
     page.put(word);
@@ -97,7 +101,7 @@ fn put_named(page: &mut Page<219136>, word: &[u8], bytes: &[u8; 32])
 }
 
 // The end of the line about a ledger: its pool and its root.
-fn put_pool_and_root(page: &mut Page<219136>, l: Ledger)
+fn put_pool_and_root(page: &mut Sheet, l: Ledger)
     ensures { Wrote 97 (ascii " pool " ++ decimal l.pool.0 ++ ascii " root " ++ hex (record_root l.tree) ++ ascii "\n") page.old page.new }
 {
     page.put_count(b" pool ", l.pool.zatoshi());
@@ -105,7 +109,7 @@ fn put_pool_and_root(page: &mut Page<219136>, l: Ledger)
     page.put(b"\n");
 }
 
-fn put_ledger(page: &mut Page<219136>, l: Ledger)
+fn put_ledger(page: &mut Sheet, l: Ledger)
     ensures { Wrote 187 (ledger_text l) page.old page.new }
 {
     page.put_count(b"ledger spent ", l.nullifiers as u64);
@@ -121,14 +125,14 @@ fn rows_shown(most: usize, count: usize, len: usize) -> usize
     count.min((len / 32).min(most))
 }
 
-fn put_row(page: &mut Page<219136>, word: &[u8], row: &[u8; 32])
+fn put_row(page: &mut Sheet, word: &[u8], row: &[u8; 32])
     ensures { Wrote (length word.now + 65) (row_line word.now row.now) page.old page.new }
 {
     put_named(page, word, row);
     page.put(b"\n");
 }
 
-fn put_rows(page: &mut Page<219136>, word: &[u8], n: usize, bytes: &[u8])
+fn put_rows(page: &mut Sheet, word: &[u8], n: usize, bytes: &[u8])
     requires { n * 32 ≤ length bytes.now }
     ensures { Wrote ((length word.now + 65) * n) (row_lines word.now n bytes.now) page.old page.new }
 {
@@ -138,7 +142,7 @@ fn put_rows(page: &mut Page<219136>, word: &[u8], n: usize, bytes: &[u8])
     }
 }
 
-fn put_all_rows(page: &mut Page<219136>, table: &[u8], roll: &[u8], l: Ledger)
+fn put_all_rows(page: &mut Sheet, table: &[u8], roll: &[u8], l: Ledger)
     ensures { Wrote longest (rows_text table.now roll.now l) page.old page.new }
 {
     let n = rows_shown(2048, l.nullifiers, table.len());
@@ -148,7 +152,7 @@ fn put_all_rows(page: &mut Page<219136>, table: &[u8], roll: &[u8], l: Ledger)
 }
 
 // A word and the hash of some bytes, so that many bytes are compared by one short line.
-fn put_hash(page: &mut Page<219136>, word: &[u8], bytes: &[u8])
+fn put_hash(page: &mut Sheet, word: &[u8], bytes: &[u8])
     ensures { Wrote (length word.now + 64) (word.now ++ hex (sha256_of bytes.now)) page.old page.new }
 {
     put_named(page, word, &sha256::hash(bytes));
@@ -156,7 +160,7 @@ fn put_hash(page: &mut Page<219136>, word: &[u8], bytes: &[u8])
 
 // What no answer shows: every lent byte, the spare ones too, and every node of the record, the unused
 // ones too.
-fn put_memory(page: &mut Page<219136>, table: &[u8], roll: &[u8], l: Ledger)
+fn put_memory(page: &mut Sheet, table: &[u8], roll: &[u8], l: Ledger)
     ensures { Wrote 202 (memory_text table.now roll.now l) page.old page.new }
 {
     let nodes = l.tree.nodes;
@@ -167,7 +171,7 @@ fn put_memory(page: &mut Page<219136>, table: &[u8], roll: &[u8], l: Ledger)
 }
 
 // A seal that passed: its pull behind the answer.
-fn put_passed(page: &mut Page<219136>, a: Answer, pull: f64)
+fn put_passed(page: &mut Sheet, a: Answer, pull: f64)
     ensures { Wrote 64 (answer_words (ascii "seal") a ++ ascii " " ++ hex64 (pull_bits pull) ++ ascii "\n") page.old page.new }
 {
     page.put_answer(b"seal", a);
@@ -176,7 +180,7 @@ fn put_passed(page: &mut Page<219136>, a: Answer, pull: f64)
     page.put(b"\n");
 }
 
-fn put_sealed(page: &mut Page<219136>, sealed: Result<f64, SealRefusal>)
+fn put_sealed(page: &mut Sheet, sealed: Result<f64, SealRefusal>)
     ensures { Wrote 64 (sealed_text sealed) page.old page.new }
 {
     match sealed {
@@ -185,7 +189,7 @@ fn put_sealed(page: &mut Page<219136>, sealed: Result<f64, SealRefusal>)
     }
 }
 
-fn put_seal(page: &mut Page<219136>, body: &[u8])
+fn put_seal(page: &mut Sheet, body: &[u8])
     requires { length body.now ≡ 41 }
     ensures { Wrote 64 (seal_text body.now) page.old page.new }
 {
@@ -200,7 +204,7 @@ fn put_seal(page: &mut Page<219136>, body: &[u8])
 }
 
 // Whatever breaks the tape's layout ends the run.
-fn break_off(page: &mut Page<219136>) -> State
+fn break_off(page: &mut Sheet) -> State
     ensures state_value { result ≡ nothing_of false }
     ensures wrote { Wrote 47 (answer_line (ascii "tape") (answer 50 0)) page.old page.new }
 {
@@ -229,7 +233,7 @@ fn going_on(ledger: Ledger, table: usize, roll: usize) -> State
     }
 }
 
-fn run_open(body: &[u8], table: &mut [u8], roll: &mut [u8], page: &mut Page<219136>) -> State
+fn run_open(body: &[u8], table: &mut [u8], roll: &mut [u8], page: &mut Sheet) -> State
     ensures { Plays (open_turn body.now table.old roll.old) table.new roll.new page.old page.new result }
 {
     let n = octets::le32(body, 0) as usize;
@@ -253,13 +257,7 @@ fn plant_length(given: bool, n: usize, m: usize) -> usize
     996
 }
 
-fn run_plant(
-    given: bool,
-    body: &[u8],
-    table: &mut [u8],
-    roll: &mut [u8],
-    page: &mut Page<219136>,
-) -> State
+fn run_plant(given: bool, body: &[u8], table: &mut [u8], roll: &mut [u8], page: &mut Sheet) -> State
     ensures { Plays (plant_turn given body.now table.old roll.old) table.new roll.new page.old page.new result }
 {
     let n = octets::le32(body, 988) as usize;
@@ -284,7 +282,7 @@ fn lay_row(bytes: &mut [u8], at: usize, number: u64, body: &[u8])
     octets::copy_in(bytes, at + 8, &body[24..48]);
 }
 
-// The rows that an entry lays by rule, one after the other.
+// The rows that an entry lays by rule, one after the other. A row's index is part of the rule.
 fn lay_rows(bytes: &mut [u8], body: &[u8])
     requires { length body.now ≡ 48 }
     ensures { bytes.new ≡ laid_by body.now bytes.old }
@@ -311,13 +309,7 @@ fn can_lay(body: &[u8], lent: usize) -> bool
     false
 }
 
-fn run_table(
-    body: &[u8],
-    table: &mut [u8],
-    roll: &[u8],
-    state: State,
-    page: &mut Page<219136>,
-) -> State
+fn run_table(body: &[u8], table: &mut [u8], roll: &[u8], state: State, page: &mut Sheet) -> State
     requires { LentWithin state table.old roll.now }
     ensures { Plays (table_turn body.now table.old roll.now state) table.new roll.now page.old page.new result }
 {
@@ -330,13 +322,7 @@ fn run_table(
     break_off(page)
 }
 
-fn run_roll(
-    body: &[u8],
-    table: &[u8],
-    roll: &mut [u8],
-    state: State,
-    page: &mut Page<219136>,
-) -> State
+fn run_roll(body: &[u8], table: &[u8], roll: &mut [u8], state: State, page: &mut Sheet) -> State
     requires { LentWithin state table.now roll.old }
     ensures { Plays (roll_turn body.now table.now roll.old state) table.now roll.new page.old page.new result }
 {
@@ -356,7 +342,7 @@ fn run_lay(
     table: &mut [u8],
     roll: &mut [u8],
     state: State,
-    page: &mut Page<219136>,
+    page: &mut Sheet,
 ) -> State
     requires { LentWithin state table.old roll.old }
     ensures { Plays (lay_turn kind body.now table.old roll.old state) table.new roll.new page.old page.new result }
@@ -381,13 +367,7 @@ fn judged(body: &[u8], table: &mut [u8], roll: &[u8], state: State) -> Answered
     judge::judge(body, &mut table[..n], &roll[..m], state.ledger)
 }
 
-fn run_case(
-    body: &[u8],
-    table: &mut [u8],
-    roll: &[u8],
-    state: State,
-    page: &mut Page<219136>,
-) -> State
+fn run_case(body: &[u8], table: &mut [u8], roll: &[u8], state: State, page: &mut Sheet) -> State
     requires { LentWithin state table.old roll.now }
     ensures { Plays (case_turn body.now table.old roll.now state) table.new roll.now page.old page.new result }
 {
@@ -397,7 +377,7 @@ fn run_case(
 }
 
 // The desk's line: its answer, and a hash of every byte of its buffer.
-fn put_desk(page: &mut Page<219136>, a: Answer, buffer: &[u8])
+fn put_desk(page: &mut Sheet, a: Answer, buffer: &[u8])
     ensures { Wrote 112 (desk_line a buffer.now) page.old page.new }
 {
     page.put_answer(b"desk", a);
@@ -412,7 +392,7 @@ fn run_draft(
     table: &mut [u8],
     roll: &[u8],
     state: State,
-    page: &mut Page<219136>,
+    page: &mut Sheet,
 ) -> State
     requires { LentWithin state table.old roll.now }
     ensures { Plays (desk_on draft.now buffer.old table.old roll.now state) table.new roll.now page.old page.new result }
@@ -427,13 +407,7 @@ fn run_draft(
     going_on(a.ledger, state.table, state.roll)
 }
 
-fn run_desk(
-    body: &[u8],
-    table: &mut [u8],
-    roll: &[u8],
-    state: State,
-    page: &mut Page<219136>,
-) -> State
+fn run_desk(body: &[u8], table: &mut [u8], roll: &[u8], state: State, page: &mut Sheet) -> State
     requires { LentWithin state table.old roll.now }
     ensures { Plays (desk_turn body.now table.old roll.now state) table.new roll.now page.old page.new result }
 {
@@ -449,7 +423,7 @@ fn run_desk(
 }
 
 // A fresh ledger on the lent bytes as they stand: entries that look before and after show what it changes.
-fn run_fresh(table: &[u8], roll: &mut [u8], state: State, page: &mut Page<219136>) -> State
+fn run_fresh(table: &[u8], roll: &mut [u8], state: State, page: &mut Sheet) -> State
     requires { LentWithin state table.now roll.old }
     ensures { Plays (fresh_turn table.now roll.old state) table.now roll.new page.old page.new result }
 {
@@ -460,7 +434,7 @@ fn run_fresh(table: &[u8], roll: &mut [u8], state: State, page: &mut Page<219136
     going_on(a.ledger, n, m)
 }
 
-fn run_block(table: &[u8], roll: &mut [u8], state: State, page: &mut Page<219136>) -> State
+fn run_block(table: &[u8], roll: &mut [u8], state: State, page: &mut Sheet) -> State
     requires { LentWithin state table.now roll.old }
     ensures { Plays (block_turn table.now roll.old state) table.now roll.new page.old page.new result }
 {
@@ -472,7 +446,7 @@ fn run_block(table: &[u8], roll: &mut [u8], state: State, page: &mut Page<219136
 }
 
 // Entries that look at the ledger, its rows or its memory, and change nothing.
-fn run_look(kind: u8, table: &[u8], roll: &[u8], state: State, page: &mut Page<219136>) -> State
+fn run_look(kind: u8, table: &[u8], roll: &[u8], state: State, page: &mut Sheet) -> State
     requires { LentWithin state table.now roll.now }
     ensures { Plays (look_turn kind table.now roll.now state) table.now roll.now page.old page.new result }
 {
@@ -488,7 +462,7 @@ fn run_look(kind: u8, table: &[u8], roll: &[u8], state: State, page: &mut Page<2
 }
 
 // Entries whose body is empty.
-fn run_bare(kind: u8, table: &[u8], roll: &mut [u8], state: State, page: &mut Page<219136>) -> State
+fn run_bare(kind: u8, table: &[u8], roll: &mut [u8], state: State, page: &mut Sheet) -> State
     requires { LentWithin state table.now roll.old }
     ensures { Plays (bare_turn kind table.now roll.old state) table.now roll.new page.old page.new result }
 {
@@ -500,7 +474,7 @@ fn run_bare(kind: u8, table: &[u8], roll: &mut [u8], state: State, page: &mut Pa
 }
 
 // A name, which changes nothing but what is printed.
-fn run_name(body: &[u8], table: &[u8], roll: &[u8], state: State, page: &mut Page<219136>) -> State
+fn run_name(body: &[u8], table: &[u8], roll: &[u8], state: State, page: &mut Sheet) -> State
     requires { LentWithin state table.now roll.now }
     ensures { Plays (name_turn body.now table.now roll.now state) table.now roll.now page.old page.new result }
 {
@@ -512,7 +486,7 @@ fn run_name(body: &[u8], table: &[u8], roll: &[u8], state: State, page: &mut Pag
 }
 
 // A seal, which changes nothing but what is printed.
-fn run_seal(body: &[u8], table: &[u8], roll: &[u8], state: State, page: &mut Page<219136>) -> State
+fn run_seal(body: &[u8], table: &[u8], roll: &[u8], state: State, page: &mut Sheet) -> State
     requires { LentWithin state table.now roll.now }
     ensures { Plays (seal_turn body.now table.now roll.now state) table.now roll.now page.old page.new result }
 {
@@ -530,7 +504,7 @@ fn run_other(
     table: &mut [u8],
     roll: &mut [u8],
     state: State,
-    page: &mut Page<219136>,
+    page: &mut Sheet,
 ) -> State
     requires { LentWithin state table.old roll.old }
     ensures { Plays (other_turn kind body.now table.old roll.old state) table.new roll.new page.old page.new result }
@@ -547,7 +521,7 @@ fn run(
     table: &mut [u8],
     roll: &mut [u8],
     state: State,
-    page: &mut Page<219136>,
+    page: &mut Sheet,
 ) -> State
     requires { LentWithin state table.old roll.old }
     ensures { Plays (entry_turn kind body.now table.old roll.old state) table.new roll.new page.old page.new result }
@@ -600,7 +574,7 @@ fn play_next(
     table: &mut [u8],
     roll: &mut [u8],
     state: State,
-    page: &mut Page<219136>,
+    page: &mut Sheet,
 ) -> State
     requires next_in_bounds { entry_length next ≤ length buffer.now }
     requires lent_within { LentWithin state table.old roll.old }
@@ -626,7 +600,7 @@ fn turn(
     ensures { LentWithin result table.new roll.new }
 {
     let next = read_next(input, buffer);
-    let mut page = Page::new();
+    let mut page = Sheet::new();
     let played = play_next(next, buffer, table, roll, state, &mut page);
     if lines::print(rt, page.text()) {
         return played;

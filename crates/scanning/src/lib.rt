@@ -14,6 +14,9 @@ use refusals::Answer;
 use seal::Calibration;
 use text::Page;
 
+// A page with room for the lines of seven cases, each with its row.
+type Sheet = Page<640>;
+
 fn calibration() -> Calibration
     ensures { result ≡ calibrated }
 {
@@ -34,7 +37,7 @@ pub fn scan_fresh(bag: &[u8]) -> Scanned
 }
 
 // The line of a case; where rows are told, behind it that of a spent nullifier's row.
-fn put_case(page: &mut Page<640>, a: Answer, rows: bool)
+fn put_case(page: &mut Sheet, a: Answer, rows: bool)
     ensures { Wrote 72 (case_text rows a) page.old page.new }
 {
     if rows {
@@ -45,7 +48,7 @@ fn put_case(page: &mut Page<640>, a: Answer, rows: bool)
 }
 
 // The answers of some cases.
-fn put_cases(page: &mut Page<640>, answers: &[Answer], rows: bool)
+fn put_cases(page: &mut Sheet, answers: &[Answer], rows: bool)
     requires { length answers.now ≤ 7 }
     ensures { Wrote 504 (case_lines rows answers.now) page.old page.new }
 {
@@ -54,7 +57,7 @@ fn put_cases(page: &mut Page<640>, answers: &[Answer], rows: bool)
     }
 }
 
-fn put_ledger(page: &mut Page<640>, l: Ledger)
+fn put_ledger(page: &mut Sheet, l: Ledger)
     ensures { Wrote 88 (ledger_line l) page.old page.new }
 {
     page.put_count(b"ledger spent ", l.nullifiers as u64);
@@ -64,7 +67,7 @@ fn put_ledger(page: &mut Page<640>, l: Ledger)
 }
 
 // A refused layout and a refused seal have one line, and nothing after it.
-fn put_scan(page: &mut Page<640>, s: Scanned, rows: bool)
+fn put_scan(page: &mut Sheet, s: Scanned, rows: bool)
     ensures { Wrote 639 (lines_of rows s) page.old page.new }
 {
     let layout = s.layout;
@@ -85,7 +88,7 @@ fn put_scan(page: &mut Page<640>, s: Scanned, rows: bool)
 pub fn render(s: Scanned, rows: bool) -> Page<640>
     ensures { Holds 640 (lines_of rows s) result }
 {
-    let mut page = Page::new();
+    let mut page = Sheet::new();
     put_scan(&mut page, s, rows);
     page
 }

@@ -5,12 +5,12 @@
 // there are edges to show.
 #![tactic(auto)]
 
-ghost use Rattle.std.specs.Prelude.{◌≤◌, length, IsOk};
+ghost use Rattle.std.specs.Prelude.{◌≡◌, ◌≤◌, length, IsOk};
 ghost use Rattle.refusals.specs.Rules.{answer};
 ghost use Rattle.text.specs.Words.{ascii, name_line};
 ghost use Rattle.text.specs.Answers.{answer_line};
 ghost use Rattle.text.specs.Pen.{Holds};
-ghost use Rattle.tray.specs.Tray.{Whole, lines_for};
+ghost use Rattle.tray.specs.Tray.{Whole, more_may_follow, lines_for};
 
 use refusals::Answer;
 use std::io::Read;
@@ -63,6 +63,12 @@ fn read_next(input: &mut impl Read, buffer: &mut [u8]) -> Result<Option<Item>, B
     Ok(Some(Item::Name(name)))
 }
 
+fn goes_on(next: Result<Option<Item>, Broken>) -> bool
+    ensures { result ≡ more_may_follow next }
+{
+    matches!(next, Ok(Some(_)))
+}
+
 // The line of a name.
 fn name_page(name: &[u8]) -> Page<640>
     requires { length name.now ≤ 100 }
@@ -99,7 +105,7 @@ fn page_of(next: Result<Option<Item>, Broken>, buffer: &[u8]) -> Page<640>
 fn turn(input: &mut impl Read, rt: &(impl Print + Eprint), buffer: &mut [u8]) -> bool {
     let next = read_next(input, buffer);
     let page = page_of(next, buffer);
-    lines::print(rt, page.text()) && matches!(next, Ok(Some(_)))
+    lines::print(rt, page.text()) && goes_on(next)
 }
 
 // A proved loop has to end, and nothing says that a tray does: the turns are counted to a number that no run

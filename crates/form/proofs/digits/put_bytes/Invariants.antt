@@ -1,9 +1,14 @@
--- After i turns the first i bytes are on the page, each a text of its own of one byte; at the end these are all that the digits say.
-use Rattle.std.proofs.Common.{◌*◌, [], ◌∷◌, take}
-use mathlib.Core.List.{flat_map}
-use Rattle.text.specs.Pen.{Wrote}
-use Rattle.form.specs.Digits.{bytes_in}
+-- What is left to put leads to the same page as all of it from the start.
+use Rattle.std.proofs.Common.{◌≡◌, true, length}
+use Rattle.text.specs.Pen.{written}
+use Rattle.form.specs.Digits.{every, is_hex_digit, bytes_in}
 use Rattle.form.proofs.digits.put_bytes.Given as goal
 
-abbrev pub invariant-loop-i : goal.invariant-loop-i
-invariant-loop-i l = Wrote (1 * l.i) (flat_map (λ x. x ∷ []) (take l.i (bytes_in l.digits))) l.initial.page l.page
+abbrev pub invariant-loop-rest : goal.invariant-loop-rest
+invariant-loop-rest l = record {
+  hex : every is_hex_digit l.rest ≡ true;
+  left : written (bytes_in l.rest) l.page ≡ written (bytes_in l.digits) l.initial.page;
+}
+
+abbrev pub decreases-loop-rest : goal.decreases-loop-rest
+decreases-loop-rest l = length l.rest

@@ -1,8 +1,7 @@
 // The nullifier table: rows of 32 bytes in lent memory, of which the first count are used and strictly
 // rise in byte order. How one row stands to another is left to order.rt, where a row starts to rows.rt,
 // and whether a table is as it has to be, to the caller.
-ghost use Rattle.std.specs.Prelude.{◌≡◌, true, ◌+◌, ◌-◌, ◌*◌, ◌/◌, ◌<◌, ◌≤◌, length, drop};
-ghost use Rattle.octets.specs.Parts.{field, pasted};
+ghost use Rattle.std.specs.Prelude.{◌≡◌, true, ◌+◌, ◌*◌, ◌<◌, ◌≤◌, length};
 ghost use Rattle.octets.specs.Rows.{rows_of};
 ghost use Rattle.ledger.specs.Sorted.{place_of, is_gap, rising, find};
 ghost use Rattle.ledger.specs.Rows.{byte_order, shifted, with_row, table_with_two, Fresh};

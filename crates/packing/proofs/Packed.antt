@@ -8,7 +8,7 @@ use borrow.Author.Tests.{eqb-false}
 use Rattle.octets.specs.Rows.{flat}
 use Rattle.refusals.proofs.RuleLaws.{by_test}
 use Rattle.text.specs.Words.{ascii}
-use Rattle.seal.specs.declared.Read.TheVariants.{Seal}
+use Rattle.std.specs.Prelude.{Ok}
 use Rattle.bag.specs.Contents.{laid_out, cases_of}
 use Rattle.bag.specs.SealAndCases.{seal_in}
 use Rattle.packing.specs.declared.PackingError.TheVariants.{NoGate, TooManyCases, NoNumber, OneTooMany, NoLength, TooLong, OtherBytes}
@@ -45,7 +45,7 @@ module _ (kind cases : ℕ) (line bytes : List ℕ) (h : is_packed (verdict_of k
   layout = laid_out_lem (seal_of kind line) cut few short
 
   -- says the gate and the raw reading that the line says
-  pub seal : seal_in (bag_in kind cases line bytes) ≡ Seal (gate_in kind line) (raw_in kind line)
+  pub seal : seal_in (bag_in kind cases line bytes) ≡ Ok (record { gate = gate_in kind line; raw = raw_in kind line })
   unfolding seal_in bag_in cut
   seal = rw (laid_out_lem (seal_of kind line) cut few short, seal_back (seal_of kind line) cut few short) (line_read_back kind line)
 
@@ -88,7 +88,7 @@ refused_apart (Err (OtherBytes there named)) t h e = eqb-false 58 32 refl e
 -- THE WHOLE: whatever bytes follow the line of a bag, they are a bag of what the input says
 pub record Packs (kind cases : ℕ) (line bytes b : List ℕ) : Type 0 where
   pub of_layout : laid_out b ≡ true
-  pub of_seal : seal_in b ≡ Seal (gate_in kind line) (raw_in kind line)
+  pub of_seal : seal_in b ≡ Ok (record { gate = gate_in kind line; raw = raw_in kind line })
   pub of_cases : cases_of b ≡ parts (sizes_in kind cases line) bytes
   pub of_bytes : flat (cases_of b) ≡ bytes
   pub of_words : (j : ℕ) → 1 ≤ j → j < first_length kind + cases → is_fit kind j (word j line) ≡ true

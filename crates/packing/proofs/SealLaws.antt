@@ -9,7 +9,7 @@ use Rattle.octets.proofs.NumberLaws.{little_bytes_lem}
 use Rattle.octets.proofs.PartLaws.{same_refl}
 use Rattle.seal.specs.declared.Gate.{Gate}
 use Rattle.seal.specs.declared.Gate.TheVariants.{None, AtLeast, Between}
-use Rattle.seal.specs.declared.Read.TheVariants.{Seal}
+use Rattle.std.specs.Prelude.{Ok}
 use Rattle.seal.specs.Body.{kind, low, high, raw, float_of, is_zero, gate_of, unused_limit_set, is_broken, read_of}
 use Rattle.refusals.proofs.RuleLaws.{by_test}
 use Rattle.packing.specs.Words.{word}
@@ -38,7 +38,7 @@ module _ (k : ℕ) (a b r : List ℕ) (ha : length a ≡ 8) (hb : length b ≡ 8
 
 -- what bytes without a breach say
 read_as : (s : List ℕ) (g : Gate) (x : Float) → length s ≡ 25 → ltb 2 (kind s) ≡ false → unused_limit_set (kind s) 1 (low s) ≡ false
-    → unused_limit_set (kind s) 2 (high s) ≡ false → gate_of s ≡ g → float_of (raw s) ≡ x → read_of s ≡ Seal g x
+    → unused_limit_set (kind s) 2 (high s) ≡ false → gate_of s ≡ g → float_of (raw s) ≡ x → read_of s ≡ Ok (record { gate = g; raw = x })
 unfolding read_of is_broken
 read_as s g x n k l h e f = rw (eq-eqb (length s) 25 n, k, l, h, e, f)
 
@@ -52,7 +52,7 @@ LimitsFit None = Unit {0}
 LimitsFit (AtLeast low) = T (fits binary64 low)
 LimitsFit (Between low high) = T (fits binary64 low) × T (fits binary64 high)
 
-pub read_back : (g : Gate) (x : Float) → LimitsFit g → T (fits binary64 x) → read_of (seal_bytes g x) ≡ Seal g x
+pub read_back : (g : Gate) (x : Float) → LimitsFit g → T (fits binary64 x) → read_of (seal_bytes g x) ≡ Ok (record { gate = g; raw = x })
 unfolding LimitsFit seal_bytes gate_of unused_limit_set
 read_back None x h hx =
     let z = zeros 8 in
@@ -88,6 +88,6 @@ limits_fit k line =
     (λ h. rw h tt)
     (λ h. by_test (eqb k 1) (λ l. rw (h, l) (number_fits (word 1 line))) (λ l. rw (h, l) (number_fits (word 1 line), number_fits (word 2 line))))
 
-pub line_read_back : (k : ℕ) (line : List ℕ) → read_of (seal_of k line) ≡ Seal (gate_in k line) (raw_in k line)
+pub line_read_back : (k : ℕ) (line : List ℕ) → read_of (seal_of k line) ≡ Ok (record { gate = gate_in k line; raw = raw_in k line })
 unfolding raw_in
 line_read_back k line = read_back (gate_in k line) (raw_in k line) (limits_fit k line) (number_fits (word (k + 1) line))

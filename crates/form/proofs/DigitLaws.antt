@@ -86,7 +86,7 @@ every_at f (x ∷ s) zero e h = (and_both (f x) (every f s) e).0
 every_at f (x ∷ s) (suc i) e h = every_at f s i (and_both (f x) (every f s) e).1 (omega arith)
 
 -- a number: a turn, the end, and that more digits do not make it smaller
-pub number_turn : (v : ℕ) (s : List ℕ) (i : ℕ) → i < length s → number_from v (drop i s) ≡ number_from (10 * v + (get_or s i 0 - 48)) (drop (i + 1) s)
+pub number_turn : (v : ℕ) (s : List ℕ) (i : ℕ) → i < length s → number_from v (drop i s) ≡ number_from (v * 10 + (get_or s i 0 - 48)) (drop (i + 1) s)
 unfolding number_from
 number_turn v s i h = rw (drop-cons s i 0 h, add-one)
 
@@ -97,7 +97,7 @@ number_end v s i h = rw (drop_of_length-le s h)
 pub number_grows : (v : ℕ) (s : List ℕ) → v ≤ number_from v s
 unfolding number_from
 number_grows v [] = omega arith
-number_grows v (x ∷ s) = omega (arith, number_grows (10 * v + (x - 48)) s)
+number_grows v (x ∷ s) = omega (arith, number_grows (v * 10 + (x - 48)) s)
 
 pub is_number_lem : (most : ℕ) (s : List ℕ) → 0 < length s → every is_digit s ≡ true → number_from 0 s ≤ most → is_number most s ≡ true
 unfolding is_number

@@ -1,6 +1,7 @@
 -- What digits say: a whole number in decimal, or bytes in hexadecimal. s is the digits, codes of ASCII.
 -- Assumes nothing.
 use Rattle.std.specs.Prelude.{ℕ, ◌+◌, ◌-◌, ◌*◌, Bool, true, cond, not, ◌&&◌, List, [], ◌∷◌, eqb, leb, ltb, length}
+unfoldable pub use Rattle.text.specs.Decimal.{number_from}
 
 unfoldable pub every : (ℕ → Bool) → List ℕ → Bool
 every f [] = true
@@ -9,13 +10,9 @@ every f (x ∷ s) = f x && every f s
 unfoldable pub is_within : ℕ → ℕ → ℕ → Bool
 is_within low high x = leb low x && leb x high
 
--- A NUMBER, the highest digit first; v is what the digits before say
+-- A NUMBER, the highest digit first
 unfoldable pub is_digit : ℕ → Bool
 is_digit x = is_within 48 57 x
-
-unfoldable pub number_from : ℕ → List ℕ → ℕ
-number_from v [] = v
-number_from v (x ∷ s) = number_from (10 * v + (x - 48)) s
 
 -- one digit or more, and leading zeros are allowed
 unfoldable pub is_number : ℕ → List ℕ → Bool

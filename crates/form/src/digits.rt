@@ -27,7 +27,7 @@ fn number_of(digits: &[u8], most: u64) -> Option<u64>
         if (most - d) / 10 < v {
             return None;
         }
-        v = 10 * v + d;
+        v = v * 10 + d;
     }
     Some(v)
 }

@@ -8,7 +8,7 @@ use native.Mathlib.Nat.{one-le-pow, pow-le-pow_right}
 use borrow.Author.Tests.{eqb-false, lt-leb}
 use Rattle.refusals.proofs.RuleLaws.{by_test}
 use Rattle.octets.proofs.BoolLaws.{and_both}
-use Rattle.packing.specs.Decimals.{is_digit, all_digits, is_digits, value_from, is_length, length_of, is_negative, unsigned, whole, fraction, point, is_unsigned, digits_of, scale_of}
+use Rattle.packing.specs.Decimals.{is_digit, all_digits, is_digits, number_from, is_length, length_of, is_negative, unsigned, whole, fraction, point, is_unsigned, digits_of, scale_of}
 use Rattle.packing.specs.Words.{place_of}
 use Rattle.packing.proofs.WordLaws.{empty, next_byte, none_left, place_within, up_to_length, behind_length}
 
@@ -18,8 +18,8 @@ module _ (s : List ℕ) (i : ℕ) (h : i < length s) where
   unfolding all_digits
   digits_next = rw (next_byte s i h)
 
-  pub value_next : (v : ℕ) → value_from v (drop i s) ≡ value_from (v * 10 + (get_or s i 0 - 48)) (drop (i + 1) s)
-  unfolding value_from
+  pub value_next : (v : ℕ) → number_from v (drop i s) ≡ number_from (v * 10 + (get_or s i 0 - 48)) (drop (i + 1) s)
+  unfolding number_from
   value_next v = rw (next_byte s i h)
 
 -- the library's test of each byte, as the code makes it
@@ -28,8 +28,8 @@ unfolding all_digits is_digit
 all_as [] = refl
 all_as (x ∷ s) = ap (λ (b : Bool). (leb 48 x && leb x 57) && b) (all_as s)
 
-pub value_end : (s : List ℕ) (i v : ℕ) → length s ≤ i → value_from v (drop i s) ≡ v
-unfolding value_from
+pub value_end : (s : List ℕ) (i v : ℕ) → length s ≤ i → number_from v (drop i s) ≡ v
+unfolding number_from
 value_end s i v h = rw (none_left s i h)
 
 -- a digit's code
@@ -71,8 +71,8 @@ unfolding unsigned
 unsigned_other w h = rw h
 
 -- HOW LARGE a number is that digits write
-pub value_below : (s : List ℕ) (v : ℕ) → all_digits s ≡ true → value_from v s + 1 ≤ (v + 1) * 10 ^ length s
-unfolding all_digits value_from
+pub value_below : (s : List ℕ) (v : ℕ) → all_digits s ≡ true → number_from v s + 1 ≤ (v + 1) * 10 ^ length s
+unfolding all_digits number_from
 value_below [] v h = omega arith
 value_below (x ∷ s) v h =
     let d = and_both (is_digit x) (all_digits s) h in
@@ -94,7 +94,7 @@ pub length_below : (w : List ℕ) → length_of w < 10 ^ 15
 unfolding length_of
 length_below w = by_test (is_length w) (λ h. rw h (said h)) (λ h. rw h (omega arith))
   where
-    said : is_length w ≡ true → value_from 0 w < 10 ^ 15
+    said : is_length w ≡ true → number_from 0 w < 10 ^ 15
     said h = let d = length_digits w h in omega (arith, value_below w 0 d.0, few_digits (length w) d.1)
 
 no_digits : all_digits [] ≡ true
@@ -140,16 +140,16 @@ module _ (u : List ℕ) (h : WellFormed u) where
   pub first_room : 1 * 10 ^ length (whole u) ≤ 10 ^ 15
   first_room = omega (arith, few_digits (length (whole u)) (omega (arith, h.few)))
 
-  pub second_room : (value_from 0 (whole u) + 1) * 10 ^ length (fraction u) ≤ 10 ^ 15
+  pub second_room : (number_from 0 (whole u) + 1) * 10 ^ length (fraction u) ≤ 10 ^ 15
   second_room =
       let k = length (fraction u) in
       let p : 10 ^ length (whole u) * 10 ^ k ≤ 10 ^ 15 = rw (← pow-add 10 (length (whole u)) k) (few_digits (length (whole u) + k) h.few) in
-      let q : value_from 0 (whole u) + 1 ≤ 10 ^ length (whole u) = omega (arith, value_below (whole u) 0 h.before) in
+      let q : number_from 0 (whole u) + 1 ≤ 10 ^ length (whole u) = omega (arith, value_below (whole u) 0 h.before) in
       le_trans (mul-le-mul_right (10 ^ k) q) p
 
   pub digits_below : digits_of u < 10 ^ 15
   unfolding digits_of
-  digits_below = omega (arith, le_trans (value_below (fraction u) (value_from 0 (whole u)) h.after) second_room)
+  digits_below = omega (arith, le_trans (value_below (fraction u) (number_from 0 (whole u)) h.after) second_room)
 
   pub scale_below : scale_of u ≤ 10 ^ 15
   unfolding scale_of
@@ -182,7 +182,7 @@ module _ (u w : List ℕ) (e : w ≡ whole u) where
 pub record Left (v : ℕ) (s : List ℕ) (n i : ℕ) : Type 0 where
   pub digits : all_digits (drop i s) ≡ true
   pub room : (n + 1) * 10 ^ (length s - i) ≤ 10 ^ 15
-  pub value : value_from v s ≡ value_from n (drop i s)
+  pub value : number_from v s ≡ number_from n (drop i s)
 
 module _ (v : ℕ) (s : List ℕ) (n i : ℕ) (h : i < length s) (l : Left v s n i) where
   pub this_digit : is_digit (get_or s i 0) ≡ true

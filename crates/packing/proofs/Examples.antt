@@ -11,7 +11,7 @@ use Rattle.octets.specs.Rows.{flat}
 use Rattle.text.specs.Words.{ascii}
 use Rattle.text.specs.Decimal.{decimal, decimal_within}
 use Rattle.packing.specs.Words.{place_of, up_to, behind, counted, from_word, word}
-use Rattle.packing.specs.Decimals.{is_digit, all_digits, is_digits, value_from, is_length, length_of, is_negative, unsigned, is_unsigned, is_number, digits_of, scale_of, quotient_of, number_of}
+use Rattle.packing.specs.Decimals.{is_digit, all_digits, is_digits, number_from, is_length, length_of, is_negative, unsigned, is_unsigned, is_number, digits_of, scale_of, quotient_of, number_of}
 use Rattle.packing.specs.Seals.{float_bytes, seal_bytes, kind_named, gate_in, raw_in}
 use Rattle.packing.specs.Bags.{row, rows_from, bag_of, parts}
 use Rattle.packing.specs.Packing.{case_count, sizes_from, sum, bag_in, is_fit, first_unfit, bytes_verdict, word_verdict, line_verdict, verdict_of, packed_from, text_by, text_of}
@@ -48,7 +48,7 @@ numbers =
     ∷ []
 
 pub marked_numbers : foldr ◌&&◌ true numbers ≡ true
-unfolding is_digit all_digits is_digits value_from is_negative unsigned is_unsigned is_number digits_of scale_of quotient_of number_of place_of up_to behind Ieee.of_int Ieee.div Ieee.neg Ieee.to_bits
+unfolding is_digit all_digits is_digits number_from is_negative unsigned is_unsigned is_number digits_of scale_of quotient_of number_of place_of up_to behind Ieee.of_int Ieee.div Ieee.neg Ieee.to_bits
 marked_numbers = refl
 
 -- TEXTS: a bag of a seal and two cases, one of them empty; and of each refusal the line, at the edge where there is one
@@ -90,5 +90,5 @@ texts =
     ∷ []
 
 pub marked_texts : foldr ◌&&◌ true texts ≡ true
-unfolding is_digit all_digits is_digits value_from is_length length_of is_negative unsigned is_unsigned is_number digits_of scale_of quotient_of number_of place_of up_to behind counted from_word word Ieee.of_int Ieee.div Ieee.neg Ieee.to_bits little_bytes flat same decimal decimal_within float_bytes seal_bytes kind_named gate_in raw_in row rows_from bag_of parts case_count sizes_from sum bag_in is_fit first_unfit bytes_verdict word_verdict line_verdict verdict_of packed_from text_by text_of
+unfolding is_digit all_digits is_digits number_from is_length length_of is_negative unsigned is_unsigned is_number digits_of scale_of quotient_of number_of place_of up_to behind counted from_word word Ieee.of_int Ieee.div Ieee.neg Ieee.to_bits little_bytes flat same decimal decimal_within float_bytes seal_bytes kind_named gate_in raw_in row rows_from bag_of parts case_count sizes_from sum bag_in is_fit first_unfit bytes_verdict word_verdict line_verdict verdict_of packed_from text_by text_of
 marked_texts = refl

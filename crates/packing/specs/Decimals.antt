@@ -2,9 +2,10 @@
 -- are digits alone. Either has at most 15 digits, so that the digits as a whole number, and the power of ten that the point stands for, are binary64
 -- numbers exactly: their quotient is rounded once, and is the binary64 number nearest to what is written.
 -- Assumes nothing.
-use Rattle.std.specs.Prelude.{ℕ, ◌+◌, ◌-◌, ◌*◌, ◌^◌, Bool, true, cond, ◌&&◌, List, [], ◌∷◌, length, drop, pos, ◌==◌, nat_le, slice_index, Float}
+use Rattle.std.specs.Prelude.{ℕ, ◌+◌, ◌^◌, Bool, true, cond, ◌&&◌, List, [], ◌∷◌, length, drop, pos, ◌==◌, nat_le, slice_index, Float}
 use Rattle.std.specs.Float.{binary64}
 use Rattle.std.specs.Float.Ieee.{of_int, div, neg}
+unfoldable pub use Rattle.text.specs.Decimal.{number_from}
 use Rattle.packing.specs.Words.{up_to, behind}
 
 unfoldable pub is_digit : ℕ → Bool
@@ -18,11 +19,6 @@ all_digits (x ∷ s) = is_digit x && all_digits s
 unfoldable pub is_digits : List ℕ → Bool
 is_digits s = nat_le 1 (length s) && all_digits s
 
--- the number that digits write, behind digits that wrote v
-unfoldable pub value_from : ℕ → List ℕ → ℕ
-value_from v [] = v
-value_from v (x ∷ s) = value_from (v * 10 + (x - 48)) s
-
 abbrev pub most_digits : ℕ
 most_digits = 15
 
@@ -31,7 +27,7 @@ unfoldable pub is_length : List ℕ → Bool
 is_length w = is_digits w && nat_le (length w) most_digits
 
 unfoldable pub length_of : List ℕ → ℕ
-length_of w = cond (is_length w) (value_from 0 w) 0
+length_of w = cond (is_length w) (number_from 0 w) 0
 
 -- A NUMBER: its sign, and what stands before and behind the point
 abbrev pub minus : ℕ
@@ -63,7 +59,7 @@ is_number w = is_unsigned (unsigned w)
 
 -- all its digits as a whole number, and the power of ten that they are divided by
 unfoldable pub digits_of : List ℕ → ℕ
-digits_of u = value_from (value_from 0 (whole u)) (fraction u)
+digits_of u = number_from (number_from 0 (whole u)) (fraction u)
 
 unfoldable pub scale_of : List ℕ → ℕ
 scale_of u = 10 ^ length (fraction u)

@@ -10,7 +10,7 @@ ghost use Rattle.std.specs.Float.{binary64};
 ghost use Rattle.text.specs.Decimal.{decimal};
 ghost use Rattle.text.specs.Pen.{Wrote, Holds};
 ghost use Rattle.packing.specs.Words.{up_to as up_to_of, behind as behind_of, counted, word as word_of, space};
-ghost use Rattle.packing.specs.Decimals.{all_digits, is_digits, value_from, is_length, length_of, is_negative, unsigned as unsigned_of, is_unsigned, is_number, digits_of, scale_of, quotient_of, number_of};
+ghost use Rattle.packing.specs.Decimals.{all_digits, is_digits, number_from, is_length, length_of, is_negative, unsigned as unsigned_of, is_unsigned, is_number, digits_of, scale_of, quotient_of, number_of};
 ghost use Rattle.packing.specs.Seals.{float_bytes, gate_kind, limit_bytes, seal_of};
 ghost use Rattle.packing.specs.Bags.{row, rows_from};
 ghost use Rattle.packing.specs.Packing.{case_count, case_count as count_of, sizes_from, sizes_in, sum, bag_in, bag_length, is_fit, first_unfit, bytes_verdict, line_verdict, verdict_of, error_line, packed_from, text_by, text_of};
@@ -106,7 +106,7 @@ fn is_digits(s: &[u8]) -> bool
 fn value_from(v: u64, s: &[u8]) -> u64
     requires s_value { all_digits s.now ≡ true }
     requires s_bound { (v + 1) * 10 ^ length s.now ≤ 10 ^ 15 }
-    ensures { result ≡ value_from v s.now }
+    ensures { result ≡ number_from v s.now }
 {
     let mut n = v;
     for x in s {

@@ -37,7 +37,7 @@ returns-then-most-d c =
     let a = c.args in
     let i = c.loop-x.x-index in
     let e = number_turn c.loop-x.v a.digits.now i (omega arith) in
-    let g = number_grows (10 * c.loop-x.v + (get_or a.digits.now i 0 - 48)) (drop (i + 1) a.digits.now) in
+    let g = number_grows (c.loop-x.v * 10 + (get_or a.digits.now i 0 - 48)) (drop (i + 1) a.digits.now) in
     rw (too_large a.most a.digits.now (omega (arith, c.loop-x.invariant.value, c.if-most-d.true, c.from-d.ensures)))
 
 pub returns-then-most-d-2 : goal.returns-then-most-d-2
@@ -45,7 +45,7 @@ returns-then-most-d-2 c =
     let a = c.args in
     let i = c.loop-x.x-index in
     let e = number_turn c.loop-x.v a.digits.now i (omega arith) in
-    let g = number_grows (10 * c.loop-x.v + (get_or a.digits.now i 0 - 48)) (drop (i + 1) a.digits.now) in
+    let g = number_grows (c.loop-x.v * 10 + (get_or a.digits.now i 0 - 48)) (drop (i + 1) a.digits.now) in
     rw (too_large a.most a.digits.now (omega (arith, c.loop-x.invariant.value, c.if-most-d-2.true, c.from-d.ensures)))
 
 pub loop-x-preserved : goal.loop-x-preserved

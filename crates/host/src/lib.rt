@@ -186,9 +186,8 @@ fn answer_bytes(answers: [Answer; 7]) -> [u8; 28]
     ensures { result ≡ answers_of answers }
 {
     let mut bytes = [0u8; 28];
-    for i in 0..7 {
-        let answer = octets::le_bytes32(code(answers[i]));
-        octets::copy_in(&mut bytes, 4 * i, &answer);
+    for (i, answer) in answers.iter().enumerate() {
+        octets::copy_in(&mut bytes, 4 * i, &octets::le_bytes32(code(*answer)));
     }
     bytes
 }

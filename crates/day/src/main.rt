@@ -4,7 +4,7 @@
 // books themselves are left to `books`.
 #![tactic(auto)]
 
-ghost use Rattle.std.specs.Prelude.{◌≡◌, ◌+◌, Bool, length};
+ghost use Rattle.std.specs.Prelude.{◌≡◌, ◌+◌, length};
 ghost use mathlib.Core.List.{flat_map};
 ghost use Rattle.text.specs.Pen.{Wrote, Holds};
 ghost use Rattle.books.specs.History.{empty as empty_tally};

@@ -3,7 +3,7 @@
 // have passed, and nothing is hashed twice. What a ledger has to say of a case is left to `judge`.
 #![tactic(auto)]
 
-ghost use Rattle.std.specs.Prelude.{◌≡◌, ◌+◌, ◌*◌, ◌^◌, ◌<◌, [], ◌∷◌};
+ghost use Rattle.std.specs.Prelude.{◌≡◌, ◌+◌, ◌*◌, [], ◌∷◌};
 ghost use Rattle.units.specs.Pairs.{number_of};
 ghost use Rattle.refusals.specs.Rules.{answer, first, rules_in};
 ghost use Rattle.refusals.specs.Reasons.{as_answer, answer_for};
@@ -149,23 +149,11 @@ fn strays(case: &[u8], i: Which) -> bool
     ends_elsewhere(case, i, &end)
 }
 
-// 11. A sum of three amounts can pass what 64 bits hold, so it is kept as two numbers: how many times
-// 2 ^ 32, and the rest.
-#[derive(Clone, Copy)]
-struct Total {
-    high: u64,
-    low: u64,
-}
-
-fn sum(a: Amount, b: Amount, c: Amount) -> Total
-    ensures { (result.high * 2 ^ 32 + result.low ≡ a.0 + b.0 + c.0) × (result.low < 2 ^ 32) }
+// 11. A sum of three amounts can pass what 64 bits hold.
+fn sum(a: Amount, b: Amount, c: Amount) -> u128
+    ensures { result ≡ a.0 + b.0 + c.0 }
 {
-    let high = a.high() + b.high() + c.high();
-    let low = a.low() + b.low() + c.low();
-    Total {
-        high: high + low / 4294967296,
-        low: low % 4294967296,
-    }
+    u128::from(a.zatoshi()) + u128::from(b.zatoshi()) + u128::from(c.zatoshi())
 }
 
 // Whether the two sides differ, or what both come to is above 2 ^ 64 - 1.
@@ -178,13 +166,7 @@ fn unbalanced(case: &[u8]) -> bool
     let new2 = casefile::new_value(case, Which::Second);
     let paid = sum(casefile::vpub_old(case), old1, old2);
     let made = sum(casefile::vpub_new(case), new1, new2);
-    if paid.high != made.high {
-        return true;
-    }
-    if paid.low != made.low {
-        return true;
-    }
-    paid.high > 4294967295
+    paid != made || paid > u128::from(u64::MAX)
 }
 
 pub fn balance(case: &[u8]) -> Result<(), Refusal>

@@ -1,5 +1,5 @@
 -- After i turns the buffer begins with the four bytes of each of the first i answers; after seven turns nothing is left behind them.
-use Prim.Native.Nat.{◌-◌, ◌*◌, ◌≤◌}
+use Prim.Native.Nat.{◌-◌, ◌*◌}
 use mathlib.Core.Path.{◌≡◌}
 use lib.ListN.{length, take}
 use Rattle.octets.proofs.Joining.{Laid}

@@ -1,14 +1,13 @@
--- Each sum is a whole times 2 ^ 32 and a rest. The three returns are: the wholes differ, the rests differ, and neither; there the whole tells of the ceiling.
-use mathlib.Core.Path.{◌≡◌, ◌∙◌}
-use Prim.Native.Nat.{ℕ, ◌+◌, ◌-◌, ◌*◌, ◌^◌}
-use mathlib.Core.Bool.{true}
+-- The two returns: the sums differ, or they are equal and the ceiling decides.
+use mathlib.Core.Path.{◌≡◌, ap, ap₂, ◌∙◌}
+use Prim.Native.Nat.{ℕ, ◌+◌, ◌-◌, ◌^◌}
+use mathlib.Core.Bool.{true, not}
 use mathlib.Core.List.{List}
 use native.Mathlib.Omega.{arith}
-use lib.Dec.{ltb}
+use lib.Dec.{eqb, ltb}
 use borrow.Author.Tests.{eq-eqb, ne_eqb}
 use Rattle.casefile.specs.Fields.{vpub_old_of, vpub_new_of, old_value_of, new_value_of}
 use Rattle.statement.specs.CaseRefusals.{unbalanced_of, unbalanced}
-use Rattle.statement.proofs.TestLaws.{same_parts, whole_tells}
 use Rattle.statement.proofs.unbalanced.Goals as goal
 
 abbrev value_in : List ℕ → ℕ
@@ -32,22 +31,12 @@ equal c h =
 
 pub returns-then-paid-made : goal.returns-then-paid-made
 returns-then-paid-made c =
-    let case = c.args.case.now in
-    let paid : c.sum-paid.result.high * 2 ^ 32 + c.sum-paid.result.low ≡ value_in case = omega arith in
-    let made : c.sum-made.result.high * 2 ^ 32 + c.sum-made.result.low ≡ value_out case = omega arith in
-    unequal case (λ e. c.if-paid-made.true (same_parts _ _ _ _ _ _ paid made c.sum-paid.ensures.1 c.sum-made.ensures.1 e).0)
+    let differ : not (eqb c.sum-paid.result c.sum-made.result) ≡ true = ap not (ne_eqb _ _ c.if-paid-made.true) in
+    differ ∙ unequal c.args.case.now (λ e. c.if-paid-made.true (omega (arith, e)))
 
-pub returns-then-paid-made-2 : goal.returns-then-paid-made-2
-returns-then-paid-made-2 c =
+pub returns-else-paid-made : goal.returns-else-paid-made
+returns-else-paid-made c =
     let case = c.args.case.now in
-    let paid : c.sum-paid.result.high * 2 ^ 32 + c.sum-paid.result.low ≡ value_in case = omega arith in
-    let made : c.sum-made.result.high * 2 ^ 32 + c.sum-made.result.low ≡ value_out case = omega arith in
-    unequal case (λ e. c.if-paid-made-2.true (same_parts _ _ _ _ _ _ paid made c.sum-paid.ensures.1 c.sum-made.ensures.1 e).1)
-
-pub returns : goal.returns
-returns c =
-    let case = c.args.case.now in
-    let paid : c.sum-paid.result.high * 2 ^ 32 + c.sum-paid.result.low ≡ value_in case = omega arith in
-    let made : c.sum-made.result.high * 2 ^ 32 + c.sum-made.result.low ≡ value_out case = omega arith in
-    let e : value_in case ≡ value_out case = omega arith in
-    whole_tells _ _ _ paid c.sum-paid.ensures.1 ∙ equal case e
+    let paid : c.sum-paid.result ≡ value_in case = omega arith in
+    let e : value_in case ≡ value_out case = omega (arith, c.if-paid-made.false) in
+    ap₂ ltb c.from.ensures paid ∙ equal case e

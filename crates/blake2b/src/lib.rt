@@ -54,7 +54,8 @@ fn turn(v: &mut [u64; 16], i: usize, j: usize, n: u32)
     v[i] = (v[i] ^ v[j]).rotate_right(n);
 }
 
-// One half of G: a word x of the block goes in, and each of four words of v is changed once.
+// One half of G: a word x of the block goes in, and each of four words of v is changed once. The four places stay four
+// arguments, as RFC 7693 writes G: a struct of them would only be built and taken apart.
 fn half(v: &mut [u64; 16], a: usize, b: usize, c: usize, d: usize, x: u64, p: u32, q: u32)
     requires { (a < 16) × ((b < 16) × ((c < 16) × ((d < 16) × ((0 < p) × ((p < 64) × ((0 < q) × (q < 64))))))) }
     ensures { v.new ≡ half_of a b c d x p q v.old }
@@ -278,7 +279,8 @@ pub fn hash32(m: &[u8], personal: &[u8; 16]) -> [u8; 32]
     bytes(&h, 32)
 }
 
-// The digest of any length from 1 to 64 bytes, with zeros behind it. Of another length there is none.
+// The digest of any length from 1 to 64 bytes, with zeros behind it. Of another length there is none. An array and not
+// a `Vec`: the product has no heap.
 pub fn hash(m: &[u8], personal: &[u8; 16], length: usize) -> Option<[u8; 64]>
     ensures { result ≡ digest_of length personal.now m.now }
 {

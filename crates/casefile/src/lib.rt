@@ -44,7 +44,8 @@ fn spot(i: Which, start: usize, step: usize) -> usize
     }
 }
 
-// Where those lie that are not only read but written too.
+// Where those lie that are not only read but written too. Each place has its name, since reader and writer share it: a
+// `spot` with its numbers would stand twice.
 fn nullifier_at(i: Which) -> usize
     ensures { result ≡ of_pair i 48 (48 + 32) }
 {
@@ -95,6 +96,7 @@ pub fn has_length(case: &[u8]) -> bool
     (n - SECOND_LENGTH) % 104 == 0
 }
 
+// A reader for each field, one line each: docs/PROMISES.md names them, and each contract names its field.
 pub fn vpub_old(case: &[u8]) -> Amount
     ensures { result.0 ≡ vpub_old_of case.now }
 {
@@ -218,7 +220,8 @@ pub fn phi(case: &[u8]) -> [u8; 32]
 }
 
 // Writing what the desk works out from the rest of a case. Each of these puts 32 bytes where the reader of its
-// name finds them, and answers whether the file has that place; where it does not, it stays as it is.
+// name finds them, and answers whether the file has that place; where it does not, it stays as it is. There are five of
+// them by name: one for all would write any field, also those that a custodian chooses.
 pub fn put_nullifier(case: &mut [u8], i: Which, bytes: &[u8; 32]) -> bool
     ensures value { result ≡ has_place (nullifier_field (number_of i)) bytes.now case.old }
     ensures case_after { case.new ≡ put_part (nullifier_field (number_of i)) bytes.now case.old }

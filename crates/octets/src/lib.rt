@@ -7,14 +7,14 @@ ghost use Rattle.std.specs.Prelude.{◌≡◌, [], ◌∷◌, ◌+◌, ◌-◌, 
 ghost use Rattle.octets.specs.Parts.{field, fits_in, pasted, same as same_of};
 ghost use Rattle.octets.specs.Numbers.{little, big, little_bytes, big_bytes};
 
-// Eight bytes as a number, the first the highest.
+// Eight bytes as a number, the first the highest. Eight arguments and not an array: docs/PROMISES.md has the call so.
 pub fn be64_of(b0: u8, b1: u8, b2: u8, b3: u8, b4: u8, b5: u8, b6: u8, b7: u8) -> u64
     ensures { result ≡ big (b0 ∷ b1 ∷ b2 ∷ b3 ∷ b4 ∷ b5 ∷ b6 ∷ b7 ∷ []) }
 {
     u64::from_be_bytes([b0, b1, b2, b3, b4, b5, b6, b7])
 }
 
-// A number as bytes. Three readers and three writers that differ in a type, since the library has its method for each
+// A number as bytes. Three readers and three writers that differ in a type, since std has its method for each
 // type of number and no trait over them: what they add is a contract in this crate's own words.
 pub fn le_bytes16(x: u16) -> [u8; 2]
     ensures { result ≡ little_bytes 2 x }

@@ -11,6 +11,7 @@ use units::{Row, Which};
 
 // The number of a refusal and its place, or 0 and 0; and of a nullifier that is refused as spent the row of
 // the table in which it stands. Every other answer has row 0.
+// These stay numbers: C is handed them, and a judgement's record holds any number, place and row.
 #[derive(Clone, Copy)]
 pub struct Answer {
     pub number: u8,

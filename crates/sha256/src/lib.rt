@@ -46,6 +46,7 @@ fn maj(x: u32, y: u32, z: u32) -> u32
     (x & y) ^ (x & z) ^ (y & z)
 }
 
+// Four functions, as FIPS 180-4 names four: one with the three distances as arguments would say no less.
 fn big0(x: u32) -> u32
     ensures { result ≡ Σ0 x }
 {
@@ -92,7 +93,8 @@ fn extend(w: &mut [u32; 64], i: usize)
         .wrapping_add(w[i]);
 }
 
-// The schedule. Four words a turn, which spares three of four jumps: with one a turn a block takes 96 instructions more.
+// The schedule. Four words a turn, which spares three of four jumps: with one a turn a block takes 96 instructions
+// more.
 fn schedule(b: &[u8; 64]) -> [u32; 64]
     ensures { result ≡ schedule_of b.now }
 {

@@ -242,7 +242,8 @@ fn commitment_wrong(case: &[u8], i: Which) -> bool
     differ(&claimed, &derived)
 }
 
-// What a case claims of both of a pair, which is asked in one way.
+// What a case claims of both of a pair, which is asked in one way. An enum and a match, and no closure: `claim_wrong`
+// and `claim_number` of specs/Claims.antt are over it.
 #[derive(Clone, Copy)]
 enum Claim {
     Path,

@@ -14,7 +14,8 @@ pub const ALL_MONEY: u64 = 2100000000000000;
 // How many leaves the commitment tree can have, 2 ^ 29.
 pub const TREE_LEAVES: u32 = 536870912;
 
-// An amount in zatoshi.
+// An amount in zatoshi. Here and below a number is made and read by a call with a name, not by `From`: by `into` a
+// number could become an amount unseen.
 #[derive(Clone, Copy)]
 pub struct Amount(u64);
 
@@ -34,6 +35,7 @@ pub enum Which {
 }
 
 impl Which {
+    // A call with a name and not a `From`: that the first of a pair is 1 and the second 2 is `number_of`'s promise.
     pub fn number(self) -> u8
         ensures { result ≡ number_of self }
     {

@@ -77,6 +77,8 @@ fn g(v: &mut [u64; 16], a: usize, b: usize, c: usize, d: usize, x: u64, y: u64)
 
 // The word that round i takes at its place j. The remainder changes no entry, since each is below 16: by it the
 // compiler sees that the index lies in the block, and a digest takes 200 instructions fewer.
+// The round stays a number here and in the four below: the definitions count rounds, and a row of SIGMA in its place
+// would have to be tied to its number in each contract.
 fn pick(m: &[u64; 16], i: usize, j: usize) -> u64
     requires { (i < 12) × (j < 16) }
     ensures { result ≡ picked m.now i j }

@@ -1,5 +1,6 @@
 // The functions of `host` as C sees them: the archive that a scanner's firmware links, by way of entry/calls.c. Each
 // hands on to the function of its name, and promises what that one does.
+// C needs each of them beside the one in `host`: a crate is a library for Rattle or an archive for C.
 #![tactic(auto)]
 
 ghost use Rattle.std.specs.Prelude.{◌≡◌};

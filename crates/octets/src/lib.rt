@@ -15,7 +15,8 @@ pub fn be64_of(b0: u8, b1: u8, b2: u8, b3: u8, b4: u8, b5: u8, b6: u8, b7: u8) -
 }
 
 // A number as bytes. Three readers and three writers that differ in a type, since std has its method for each
-// type of number and no trait over them: what they add is a contract in this crate's own words.
+// type of number and no trait over them, and num_traits, which has one, would be a library more to read: what they
+// add is a contract in this crate's own words.
 pub fn le_bytes16(x: u16) -> [u8; 2]
     ensures { result ≡ little_bytes 2 x }
 {

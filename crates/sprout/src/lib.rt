@@ -48,7 +48,8 @@ pub fn nullifier(key: &[u8; 32], rho: &[u8; 32]) -> [u8; 32]
 }
 
 // The prefixes of tag and rho, for the first and the second of a pair. Two functions, since there are two rules: one
-// with both constants as arguments would let a caller mix them. Each is below 16, as `prefixed` asks.
+// with both constants as arguments would let a caller mix them. Each says that it is below 16, as `prefixed` asks: a
+// type for the tags would need a second definition that gives each its number.
 fn mac_prefix(i: Which) -> u8
     ensures { (result ≡ mac_prefix (number_of i)) × (result < 16) }
 {

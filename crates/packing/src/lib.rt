@@ -34,7 +34,8 @@ pub enum PackingError {
     OtherBytes(usize, usize),
 }
 
-// The place of the first x, or the end.
+// The place of the first x, or the end. `form` has a line over `position` too, for a closure: one for both would
+// be a call of a third crate, and no shorter.
 fn place(s: &[u8], x: u8) -> usize
     ensures within { result ≤ length s.now }
     ensures before { (k : ℕ) → k < result → slice_index s.now k ≢ x }
@@ -102,7 +103,9 @@ fn is_digits(s: &[u8]) -> bool
     all_digits(s)
 }
 
-// The number that digits write behind digits that wrote v, 15 digits in all at most.
+// The number that digits write behind digits that wrote v, 15 digits in all at most. Beside the reading of digits
+// in `form`, which stops at a bound: this one is told that 15 digits fit. By hand, not by `parse`: the digits
+// before and behind the point go on into one number.
 fn value_from(v: u64, s: &[u8]) -> u64
     requires s_value { all_digits s.now ≡ true }
     requires s_bound { (v + 1) * 10 ^ length s.now ≤ 10 ^ 15 }
@@ -173,7 +176,8 @@ fn is_number(w: &[u8]) -> bool
     is_unsigned(unsigned(w))
 }
 
-// The digits on both sides of the point, as one whole number.
+// The digits on both sides of the point, as one whole number. This and the next two are told that u is unsigned:
+// only `number_bits` asks, so a struct of the two halves would stand for one question.
 fn digits_of(u: &[u8]) -> u64
     requires { is_unsigned u.now ≡ true }
     ensures { result ≡ digits_of u.now }
@@ -190,7 +194,8 @@ fn scale_of(u: &[u8]) -> u64
     10u64.pow(behind(u, b'.').len() as u32)
 }
 
-// Rounded once: both whole numbers are binary64 numbers exactly.
+// Rounded once: both whole numbers are binary64 numbers exactly. By hand, not by `parse`: one division of two
+// exact numbers is what `number_of` says, and takes no text.
 fn quotient_of(u: &[u8]) -> f64
     requires { is_unsigned u.now ≡ true }
     ensures { result ≡ quotient_of u.now }
@@ -244,7 +249,8 @@ fn put_seal(page: &mut Sheet, line: &[u8], kind: usize)
     put_float(page, word(line, kind + 1));
 }
 
-// The kind of the gate that a word names, which is how many limits it has.
+// The kind of the gate that a word names. It stays a number: it is the seal's first byte, and how many limits the
+// gate has, from which the words behind it are counted.
 fn kind_named(w: &[u8]) -> Option<usize>
     ensures { result ≡ gate_kind w.now }
 {
@@ -269,8 +275,8 @@ fn put_row(page: &mut Sheet, kind: u8, start: usize, size: usize)
     page.put(&octets::le_bytes32((size % 4294967296) as u32));
 }
 
-// The rows of n cases, whose lengths stand from word k on; the first case starts at index first. Words are asked for
-// by their number: a line keeps no list of them.
+// The rows of n cases, whose lengths stand from word k on; the first case starts at index first. Words are asked
+// for by their number: one that the line does not have counts as empty, and no walk over its words gives that one.
 fn put_rows(page: &mut Sheet, line: &[u8], k: usize, n: usize, first: usize)
     requires n_bound { n ≤ 7 }
     requires k_bound { k ≤ 5 }
@@ -302,7 +308,7 @@ fn put_bag(page: &mut Sheet, line: &[u8], bytes: &[u8], kind: usize, cases: usiz
     page.put(bytes);
 }
 
-// The sum of the lengths that n words from word k on say.
+// The sum of the lengths that n words from word k on say, asked for by their number as in `put_rows`.
 fn named_bytes(line: &[u8], k: usize, n: usize) -> usize
     requires n_bound { n ≤ 7 }
     requires k_bound { k ≤ 5 }
@@ -331,8 +337,8 @@ fn is_fit(line: &[u8], kind: usize, k: usize) -> bool
     is_length(w)
 }
 
-// The first of n words behind the gate's name that is not as it should be. Words are asked for by their number: a
-// line keeps no list of them.
+// The first of n words behind the gate's name that is not as it should be, asked for by their number as in
+// `put_rows`; the number past the last where all are, as `first_unfit` of specs/Packing.antt gives it.
 fn first_unfit(line: &[u8], kind: usize, n: usize) -> usize
     requires kind_bound { kind ≤ 2 }
     requires n_bound { n ≤ 11 }
@@ -380,7 +386,8 @@ fn line_verdict(line: &[u8], kind: usize, cases: usize, there: usize) -> Result<
     bytes_verdict(cases, named_bytes(line, kind + 3, cases), there)
 }
 
-// What is wrong first behind the gate's name, if anything is.
+// What is wrong first behind the gate's name, if anything is. Line, kind and count stay three arguments, as they
+// are in `verdict_of`: a struct of them would be taken apart at each word.
 fn verdict(line: &[u8], bytes: &[u8], kind: usize, cases: usize) -> Result<(), PackingError>
     requires { kind ≤ 2 }
     ensures { result ≡ verdict_of kind cases line.now bytes.now }

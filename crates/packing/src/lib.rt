@@ -3,7 +3,7 @@
 // length of each case, and behind it the bytes of the cases. What the cases say is not looked at.
 #![tactic(auto)]
 
-ghost use Rattle.std.specs.Prelude.{◌≡◌, ℕ, ◌+◌, ◌*◌, ◌^◌, ◌<◌, ◌≤◌, ◌≢◌, true, ◌++◌, length, slice_index, to_bits};
+ghost use Rattle.std.specs.Prelude.{◌≡◌, ℕ, ◌+◌, ◌*◌, ◌^◌, ◌<◌, ◌≤◌, ◌≢◌, true, cond, Some, None, ◌++◌, length, slice_index, to_bits};
 ghost use Rattle.std.specs.List.{list_all};
 ghost use Rattle.std.specs.Char.{is_ascii_digit};
 ghost use Rattle.std.specs.Float.{binary64};
@@ -97,10 +97,7 @@ fn all_digits(s: &[u8]) -> bool
 fn is_digits(s: &[u8]) -> bool
     ensures { result ≡ is_digits s.now }
 {
-    if s.is_empty() {
-        return false;
-    }
-    all_digits(s)
+    !s.is_empty() && all_digits(s)
 }
 
 // The number that digits write behind digits that wrote v, 15 digits in all at most. Beside the reading of digits
@@ -118,23 +115,14 @@ fn value_from(v: u64, s: &[u8]) -> u64
     n
 }
 
-fn is_length(w: &[u8]) -> bool
-    ensures { result ≡ is_length w.now }
+// The length that a word says; none where it is no length.
+fn length_in(w: &[u8]) -> Option<usize>
+    ensures { result ≡ cond (is_length w.now) (Some (length_of w.now)) None }
 {
-    if is_digits(w) {
-        return w.len() <= 15;
+    if !is_digits(w) || 15 < w.len() {
+        return None;
     }
-    false
-}
-
-// The length that a word says, and 0 for any other word.
-fn length_of(w: &[u8]) -> usize
-    ensures { result ≡ length_of w.now }
-{
-    if is_length(w) {
-        return value_from(0, w) as usize;
-    }
-    0
+    Some(value_from(0, w) as usize)
 }
 
 fn is_negative(w: &[u8]) -> bool
@@ -285,7 +273,7 @@ fn put_rows(page: &mut Sheet, line: &[u8], k: usize, n: usize, first: usize)
 {
     let mut start = first;
     for i in 0..n {
-        let size = length_of(word(line, k + i));
+        let size = length_in(word(line, k + i)).unwrap_or(0);
         put_row(page, 2, start, size);
         start += size;
     }
@@ -316,7 +304,7 @@ fn named_bytes(line: &[u8], k: usize, n: usize) -> usize
 {
     let mut total = 0;
     for i in 0..n {
-        total += length_of(word(line, k + i));
+        total += length_in(word(line, k + i)).unwrap_or(0);
     }
     total
 }
@@ -334,7 +322,7 @@ fn is_fit(line: &[u8], kind: usize, k: usize) -> bool
     if k == kind + 2 {
         return octets::same(w, b"cases");
     }
-    is_length(w)
+    length_in(w).is_some()
 }
 
 // The first of n words behind the gate's name that is not as it should be, asked for by their number as in

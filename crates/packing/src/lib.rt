@@ -71,13 +71,7 @@ fn word<'a>(line: &'a [u8], k: usize) -> &'a [u8]
 fn spaces(line: &[u8]) -> usize
     ensures { result ≡ counted space line.now }
 {
-    let mut n = 0;
-    for x in line {
-        if *x == b' ' {
-            n += 1;
-        }
-    }
-    n
+    line.iter().filter(|x| **x == b' ').count()
 }
 
 // How many words stand behind "cases".

@@ -3,8 +3,9 @@
 // length of each case, and behind it the bytes of the cases. What the cases say is not looked at.
 #![tactic(auto)]
 
-ghost use Rattle.std.specs.Prelude.{◌≡◌, ℕ, ◌+◌, ◌*◌, ◌^◌, ◌<◌, ◌≤◌, ◌≢◌, true, cond, Some, None, ◌++◌, length, slice_index, to_bits};
-ghost use Rattle.std.specs.List.{list_all};
+ghost use Rattle.std.specs.Prelude.{◌≡◌, ℕ, ◌+◌, ◌*◌, ◌^◌, ◌<◌, ◌≤◌, ◌≢◌, ◌==◌, true, cond, Some, None, ◌++◌, length, slice_index, to_bits};
+ghost use Rattle.std.specs.List.{list_all, slice_get, slice_split};
+ghost use Rattle.std.specs.Option.{option_map};
 ghost use Rattle.std.specs.Char.{is_ascii_digit};
 ghost use Rattle.std.specs.Float.{binary64};
 ghost use Rattle.text.specs.Decimal.{decimal};
@@ -57,15 +58,18 @@ fn behind<'a>(s: &'a [u8], x: u8) -> &'a [u8]
     if i < s.len() { &s[i + 1..] } else { &s[i..] }
 }
 
-// Word k of a line.
+// Word k of a line, if it has one.
+fn nth_word<'a>(line: &'a [u8], k: usize) -> Option<&'a [u8]>
+    ensures { option_map (λ x. x.now) result ≡ slice_get (slice_split (λ x. x == space) line.now) k }
+{
+    line.split(|x| *x == b' ').nth(k)
+}
+
+// The same; a word that the line does not have is empty.
 fn word<'a>(line: &'a [u8], k: usize) -> &'a [u8]
     ensures { result.now ≡ word_of k line.now }
 {
-    let mut rest = line;
-    for _i in 0..k {
-        rest = behind(rest, b' ');
-    }
-    up_to(rest, b' ')
+    nth_word(line, k).unwrap_or(&[])
 }
 
 fn spaces(line: &[u8]) -> usize

@@ -6,7 +6,9 @@
 // prints, and the four programs that judge and write stand in one form.
 #![tactic(auto)]
 
-// A byte more than a bag may have: what fills it is too long, however it goes on.
+// A byte more than a bag may have: what fills it is too long, however it goes on. A program beside `scanner`, not
+// a switch of it: a program is handed no arguments here, only its input. Its main, and those of `scanner`, `writer`
+// and `packer`, are three calls each, over other lengths and other texts.
 fn main(rt: HostRuntime) {
     let mut input = [0u8; 65537];
     let n = lines::read_full(&mut rt.stdin(), &mut input);

@@ -8,7 +8,7 @@ ghost use Rattle.form.specs.Digits.{every, number_from, is_number, worth, is_hex
 use text::Page;
 
 // The number that decimal digits say, where it is at most the given one. Digits that follow can only make it
-// larger.
+// larger. By hand, not by `parse`: that takes text, lets a `+` pass, and has no bound but the type's.
 fn number_of(digits: &[u8], most: u64) -> Option<u64>
     ensures { result ≡ cond (is_number most digits.now) (Some (number_from 0 digits.now)) None }
 {
@@ -32,7 +32,8 @@ fn number_of(digits: &[u8], most: u64) -> Option<u64>
     Some(v)
 }
 
-// Whether they say one.
+// Whether they say one. Asked first and read afterwards: a line is accepted whole before any byte of it is put on
+// the page.
 pub fn is_number(digits: &[u8], most: u64) -> bool
     ensures { result ≡ is_number most digits.now }
 {
@@ -47,7 +48,8 @@ pub fn value_of(digits: &[u8], most: u64) -> u64
     number_of(digits, most).unwrap_or(0)
 }
 
-// What a hexadecimal digit is worth, and 16 for what is none.
+// What a hexadecimal digit is worth, and 16 for what is none. By hand, not by `to_digit`: that takes a char, and
+// the definition `worth` is of a byte.
 fn worth_of(x: u8) -> u8
     ensures { result ≡ worth x }
 {
@@ -83,7 +85,8 @@ fn byte_of(high: u8, low: u8) -> u8
     16 * worth_of(high) + worth_of(low)
 }
 
-// The bytes that hexadecimal digits say.
+// The bytes that hexadecimal digits say. By hand, not by the crate `hex`: what that decodes goes into a buffer,
+// and these bytes go onto a page.
 pub fn put_bytes(page: &mut Page<4210>, digits: &[u8])
     requires { every is_hex_digit digits.now ≡ true }
     ensures { Wrote (length digits.now / 2) (bytes_in digits.now) page.old page.new }

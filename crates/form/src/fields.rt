@@ -65,6 +65,8 @@ const SHAPES: [Shape; 28] = [
     Shape(0, Kind::Hex(64)),
 ];
 
+// A field's place stays a number, not a type below 28: the reader counts it, also past the last, and `FormError`
+// hands it out.
 fn shape_of(k: usize) -> Shape
     requires { k < 28 }
     ensures result_value { result.0 ≡ (field_at k).gap }

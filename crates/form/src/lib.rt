@@ -19,8 +19,8 @@ use fields::{COUNT, Kind, MOST_AMOUNT, MOST_POSITION, is_field, kind_of, put_fie
 use lines::{is_end, up_to, word};
 use text::Page;
 
-// Why a text is no form: a wrong line, counted from 1, and the field that was expected there, counted from 0; or it is
-// too long to be read.
+// Why a text is no form: a wrong line, counted from 1, and the field that was expected there, counted from 0; or
+// it is too long to be read.
 #[derive(Clone, Copy, Debug, PartialEq, Eq)]
 pub enum FormError {
     Wrong(usize, usize),
@@ -38,8 +38,8 @@ fn is_passed_over(line: &[u8]) -> bool
     first.len() == 0
 }
 
-// The lines of a text, one after the other. They are cut by hand: the library's `split` makes a line of what stands
-// behind the last end, so a text that ends with an end would have a line more.
+// The lines of a text, one after the other. They are cut by hand: the library's `split` makes a line more of what
+// stands behind the last end, and `split_inclusive` leaves each line its end, to be cut off where there is one.
 fn read_lines(text: &[u8], draft: &mut Page<4210>) -> Result<(), FormError>
     requires { length text.now ≤ 65536 }
     ensures value { result ≡ (read_from 1 0 [] (lines_in text.now)).formed }
@@ -68,8 +68,8 @@ fn read_lines(text: &[u8], draft: &mut Page<4210>) -> Result<(), FormError>
     Ok(())
 }
 
-// Reads a form onto a page; one that is empty always has room for the draft. Of a wrong form, the fields before the
-// wrong line are written there.
+// Reads a form onto a page; one that is empty always has room for the draft. Of a wrong form, the fields before
+// the wrong line are written there.
 pub fn read(text: &[u8], draft: &mut Page<4210>) -> Result<(), FormError>
     ensures value { result ≡ (reading_of text.now).formed }
     ensures wrote { Wrote 4210 (reading_of text.now).bytes draft.old draft.new }

@@ -7,6 +7,7 @@ ghost use Rattle.form.specs.Lines.{End, Mark, Ink, is_blank, stops_at, content_o
 
 use text::Page;
 
+// At what a cut stops. Functions, not closures at the calls: the contract of each names the definition that it is.
 pub fn is_blank(x: u8) -> bool
     ensures { result ≡ is_blank x }
 {
@@ -31,7 +32,8 @@ pub fn is_end(x: u8) -> bool
     x == b'\n'
 }
 
-// How many bytes there are before the first at which it stops.
+// How many bytes there are before the first at which it stops. `packing` has a line over `position` too, for a
+// byte: one for both would be a call of a third crate, and no shorter.
 pub fn up_to<F: Fn(u8) -> bool>(s: &[u8], stops: F) -> usize
     requires { F.IsAlwaysCallable stops }
     ensures within { result ≤ length s.now }
@@ -71,7 +73,8 @@ fn put_without_blanks(page: &mut Page<65536>, s: &[u8])
     }
 }
 
-// The value, on a page that has room for it.
+// The value, on a page that has room for it. The four that are handed a line or the text ask for this bound: room
+// is needed here, and nowhere else.
 pub fn value(line: &[u8]) -> Page<65536>
     requires { length line.now ≤ 65536 }
     ensures { Holds 65536 (value_of line.now) result }

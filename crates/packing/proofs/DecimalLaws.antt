@@ -1,9 +1,10 @@
 -- Digits and the numbers that they write.
 -- Assumes nothing.
-use Rattle.std.proofs.Common.{◌≡◌, ℕ, suc, ◌+◌, ◌-◌, ◌*◌, ◌^◌, ◌<◌, ◌≤◌, true, false, cond, ◌&&◌, eqb, leb, List, [], ◌∷◌, length, get_or, drop, sym, refl, ap, ◌∙◌, ⊎_elim, le_trans, mul-le-mul_right, mul_assoc, mul_comm, eq-or-lt_of_le, pow-suc, le-mul_of_pos_right, arith, pow-add, eq-eqb, ne_eqb, eqb-true, le-leb, leb-true}
+use Rattle.std.proofs.Common.{◌≡◌, ℕ, suc, ◌+◌, ◌-◌, ◌*◌, ◌^◌, ◌<◌, ◌≤◌, true, false, cond, ◌&&◌, eqb, leb, List, [], ◌∷◌, length, get_or, drop, Some, None, sym, refl, ap, ◌∙◌, ⊎_elim, le_trans, mul-le-mul_right, mul_assoc, mul_comm, eq-or-lt_of_le, pow-suc, le-mul_of_pos_right, arith, pow-add, eq-eqb, ne_eqb, eqb-true, le-leb, leb-true}
 use mathlib.Core.Bool.{Bool, false≢true}
 use Rattle.std.specs.List.{list_all}
 use Rattle.std.specs.Char.{is_ascii_digit}
+use Rattle.std.specs.Option.{is_some, unwrap_or}
 use native.Mathlib.Nat.{one-le-pow, pow-le-pow_right}
 use borrow.Author.Tests.{eqb-false, lt-leb}
 use Rattle.refusals.proofs.RuleLaws.{by_test}
@@ -96,6 +97,14 @@ length_below w = by_test (is_length w) (λ h. rw h (said h)) (λ h. rw h (omega 
   where
     said : is_length w ≡ true → number_from 0 w < 10 ^ 15
     said h = let d = length_digits w h in omega (arith, value_below w 0 d.0, few_digits (length w) d.1)
+
+-- asked for its length, a word says whether it is one, and which one
+pub length_asked : (w : List ℕ) → is_some (cond (is_length w) (Some (length_of w)) None) ≡ is_length w
+length_asked w = by_test (is_length w) (λ h. rw h refl) (λ h. rw h refl)
+
+pub length_or_0 : (w : List ℕ) → unwrap_or (cond (is_length w) (Some (length_of w)) None) 0 ≡ length_of w
+unfolding length_of
+length_or_0 w = by_test (is_length w) (λ h. rw h refl) (λ h. rw h refl)
 
 no_digits : all_digits [] ≡ true
 unfolding all_digits

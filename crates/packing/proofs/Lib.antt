@@ -5,6 +5,7 @@ pub mod FloatLaws
 pub mod Packed
 pub mod SealLaws
 pub mod SizeLaws
+pub mod SplitLaws
 pub mod TextLaws
 pub mod WordLaws
 pub mod VerdictLaws

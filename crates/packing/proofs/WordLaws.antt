@@ -1,6 +1,8 @@
 -- Text cut at a byte, by a loop that goes through it.
 -- Assumes nothing.
-use Rattle.std.proofs.Common.{◌≡◌, ℕ, zero, suc, ◌+◌, ◌-◌, ◌<◌, ◌≤◌, Bool, true, false, cond, eqb, List, [], ◌∷◌, length, get_or, take, drop, sym, refl, ap, ◌∙◌, add-one, arith, length-drop, drop_of_length-le, length-take, take_all, drop-cons, eq-eqb, ne_eqb}
+use Rattle.std.proofs.Common.{add_comm, ◌≡◌, ℕ, zero, suc, ◌+◌, ◌-◌, ◌<◌, ◌≤◌, Bool, true, false, cond, eqb, List, [], ◌∷◌, length, get_or, take, drop, sym, refl, ap, ◌∙◌, add-one, arith, length-drop, drop_of_length-le, length-take, take_all, drop-cons, eq-eqb, ne_eqb}
+use Rattle.std.specs.List.{count_by}
+use Rattle.std.proofs.lemmas.List.Recursion.{is_count_by}
 use Rattle.packing.specs.Words.{place_of, up_to, behind, counted}
 
 pub empty : (s : List ℕ) → length s ≡ 0 → s ≡ []
@@ -25,18 +27,10 @@ place_is x [] n h b f = omega arith
 place_is x (y ∷ s) zero h b f = rw (eq-eqb y x (f (omega arith)))
 place_is x (y ∷ s) (suc n) h b f = rw (ne_eqb y x (b 0 (omega arith))) (ap suc (place_is x s n (omega arith) (λ k l. b (suc k) (omega arith)) (λ l. f (omega arith))))
 
-module _ (x : ℕ) (s : List ℕ) (i : ℕ) where
-  pub count_here : i < length s → get_or s i 0 ≡ x → counted x (drop i s) ≡ suc (counted x (drop (i + 1) s))
-  unfolding counted
-  count_here h e = rw (next_byte s i h, eq-eqb (get_or s i 0) x e)
-
-  pub count_next : i < length s → (get_or s i 0 ≡ x → ⊥) → counted x (drop i s) ≡ counted x (drop (i + 1) s)
-  unfolding counted
-  count_next h e = rw (next_byte s i h, ne_eqb (get_or s i 0) x e)
-
-  pub count_end : length s ≤ i → counted x (drop i s) ≡ 0
-  unfolding counted
-  count_end h = rw (none_left s i h)
+-- the library counts the same
+pub count_as : (x : ℕ) (s : List ℕ) → count_by (λ (y : ℕ). eqb y x) s ≡ counted x s
+unfolding counted
+count_as x s = sym (is_count_by (counted x) (λ (y : ℕ). eqb y x) refl (λ y r. rw (add_comm 1 (counted x r), add-one) refl) s)
 
 -- the place lies within the text
 pub place_within : (x : ℕ) (s : List ℕ) → place_of x s ≤ length s

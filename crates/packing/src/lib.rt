@@ -3,8 +3,9 @@
 // length of each case, and behind it the bytes of the cases. What the cases say is not looked at.
 #![tactic(auto)]
 
-ghost use Rattle.std.specs.Prelude.{◌≡◌, ℕ, ◌+◌, ◌*◌, ◌^◌, ◌<◌, ◌≤◌, ◌≢◌, true, ◌++◌, length, slice_index, to_bits};
-ghost use Rattle.std.specs.List.{list_all};
+ghost use Rattle.std.specs.Prelude.{◌≡◌, ℕ, ◌+◌, ◌*◌, ◌^◌, ◌<◌, ◌≤◌, ◌≢◌, ◌==◌, true, cond, Some, None, ◌++◌, length, slice_index, to_bits};
+ghost use Rattle.std.specs.List.{list_all, slice_get, slice_split};
+ghost use Rattle.std.specs.Option.{option_map};
 ghost use Rattle.std.specs.Char.{is_ascii_digit};
 ghost use Rattle.std.specs.Float.{binary64};
 ghost use Rattle.text.specs.Decimal.{decimal};
@@ -34,7 +35,8 @@ pub enum PackingError {
     OtherBytes(usize, usize),
 }
 
-// The place of the first x, or the end.
+// The place of the first x, or the end. `form` has a line over `position` too, for a closure: one for both would
+// be a call of a third crate, and no shorter.
 fn place(s: &[u8], x: u8) -> usize
     ensures within { result ≤ length s.now }
     ensures before { (k : ℕ) → k < result → slice_index s.now k ≢ x }
@@ -56,27 +58,24 @@ fn behind<'a>(s: &'a [u8], x: u8) -> &'a [u8]
     if i < s.len() { &s[i + 1..] } else { &s[i..] }
 }
 
-// Word k of a line.
+// Word k of a line, if it has one.
+fn nth_word<'a>(line: &'a [u8], k: usize) -> Option<&'a [u8]>
+    ensures { option_map (λ x. x.now) result ≡ slice_get (slice_split (λ x. x == space) line.now) k }
+{
+    line.split(|x| *x == b' ').nth(k)
+}
+
+// The same; a word that the line does not have is empty.
 fn word<'a>(line: &'a [u8], k: usize) -> &'a [u8]
     ensures { result.now ≡ word_of k line.now }
 {
-    let mut rest = line;
-    for _i in 0..k {
-        rest = behind(rest, b' ');
-    }
-    up_to(rest, b' ')
+    nth_word(line, k).unwrap_or(&[])
 }
 
 fn spaces(line: &[u8]) -> usize
     ensures { result ≡ counted space line.now }
 {
-    let mut n = 0;
-    for x in line {
-        if *x == b' ' {
-            n += 1;
-        }
-    }
-    n
+    line.iter().filter(|x| **x == b' ').count()
 }
 
 // How many words stand behind "cases".
@@ -96,13 +95,12 @@ fn all_digits(s: &[u8]) -> bool
 fn is_digits(s: &[u8]) -> bool
     ensures { result ≡ is_digits s.now }
 {
-    if s.is_empty() {
-        return false;
-    }
-    all_digits(s)
+    !s.is_empty() && all_digits(s)
 }
 
-// The number that digits write behind digits that wrote v, 15 digits in all at most.
+// The number that digits write behind digits that wrote v, 15 digits in all at most. Beside the reading of digits
+// in `form`, which stops at a bound: this one is told that 15 digits fit. By hand, not by `parse`: the digits
+// before and behind the point go on into one number.
 fn value_from(v: u64, s: &[u8]) -> u64
     requires s_value { all_digits s.now ≡ true }
     requires s_bound { (v + 1) * 10 ^ length s.now ≤ 10 ^ 15 }
@@ -115,23 +113,14 @@ fn value_from(v: u64, s: &[u8]) -> u64
     n
 }
 
-fn is_length(w: &[u8]) -> bool
-    ensures { result ≡ is_length w.now }
+// The length that a word says; none where it is no length.
+fn length_in(w: &[u8]) -> Option<usize>
+    ensures { result ≡ cond (is_length w.now) (Some (length_of w.now)) None }
 {
-    if is_digits(w) {
-        return w.len() <= 15;
+    if !is_digits(w) || 15 < w.len() {
+        return None;
     }
-    false
-}
-
-// The length that a word says, and 0 for any other word.
-fn length_of(w: &[u8]) -> usize
-    ensures { result ≡ length_of w.now }
-{
-    if is_length(w) {
-        return value_from(0, w) as usize;
-    }
-    0
+    Some(value_from(0, w) as usize)
 }
 
 fn is_negative(w: &[u8]) -> bool
@@ -173,7 +162,8 @@ fn is_number(w: &[u8]) -> bool
     is_unsigned(unsigned(w))
 }
 
-// The digits on both sides of the point, as one whole number.
+// The digits on both sides of the point, as one whole number. This and the next two are told that u is unsigned:
+// only `number_bits` asks, so a struct of the two halves would stand for one question.
 fn digits_of(u: &[u8]) -> u64
     requires { is_unsigned u.now ≡ true }
     ensures { result ≡ digits_of u.now }
@@ -190,7 +180,8 @@ fn scale_of(u: &[u8]) -> u64
     10u64.pow(behind(u, b'.').len() as u32)
 }
 
-// Rounded once: both whole numbers are binary64 numbers exactly.
+// Rounded once: both whole numbers are binary64 numbers exactly. By hand, not by `parse`: one division of two
+// exact numbers is what `number_of` says, and takes no text.
 fn quotient_of(u: &[u8]) -> f64
     requires { is_unsigned u.now ≡ true }
     ensures { result ≡ quotient_of u.now }
@@ -244,7 +235,8 @@ fn put_seal(page: &mut Sheet, line: &[u8], kind: usize)
     put_float(page, word(line, kind + 1));
 }
 
-// The kind of the gate that a word names, which is how many limits it has.
+// The kind of the gate that a word names. It stays a number: it is the seal's first byte, and how many limits the
+// gate has, from which the words behind it are counted.
 fn kind_named(w: &[u8]) -> Option<usize>
     ensures { result ≡ gate_kind w.now }
 {
@@ -269,8 +261,8 @@ fn put_row(page: &mut Sheet, kind: u8, start: usize, size: usize)
     page.put(&octets::le_bytes32((size % 4294967296) as u32));
 }
 
-// The rows of n cases, whose lengths stand from word k on; the first case starts at index first. Words are asked for
-// by their number: a line keeps no list of them.
+// The rows of n cases, whose lengths stand from word k on; the first case starts at index first. Words are asked
+// for by their number: one that the line does not have counts as empty, and no walk over its words gives that one.
 fn put_rows(page: &mut Sheet, line: &[u8], k: usize, n: usize, first: usize)
     requires n_bound { n ≤ 7 }
     requires k_bound { k ≤ 5 }
@@ -279,7 +271,7 @@ fn put_rows(page: &mut Sheet, line: &[u8], k: usize, n: usize, first: usize)
 {
     let mut start = first;
     for i in 0..n {
-        let size = length_of(word(line, k + i));
+        let size = length_in(word(line, k + i)).unwrap_or(0);
         put_row(page, 2, start, size);
         start += size;
     }
@@ -302,7 +294,7 @@ fn put_bag(page: &mut Sheet, line: &[u8], bytes: &[u8], kind: usize, cases: usiz
     page.put(bytes);
 }
 
-// The sum of the lengths that n words from word k on say.
+// The sum of the lengths that n words from word k on say, asked for by their number as in `put_rows`.
 fn named_bytes(line: &[u8], k: usize, n: usize) -> usize
     requires n_bound { n ≤ 7 }
     requires k_bound { k ≤ 5 }
@@ -310,7 +302,7 @@ fn named_bytes(line: &[u8], k: usize, n: usize) -> usize
 {
     let mut total = 0;
     for i in 0..n {
-        total += length_of(word(line, k + i));
+        total += length_in(word(line, k + i)).unwrap_or(0);
     }
     total
 }
@@ -328,11 +320,11 @@ fn is_fit(line: &[u8], kind: usize, k: usize) -> bool
     if k == kind + 2 {
         return octets::same(w, b"cases");
     }
-    is_length(w)
+    length_in(w).is_some()
 }
 
-// The first of n words behind the gate's name that is not as it should be. Words are asked for by their number: a
-// line keeps no list of them.
+// The first of n words behind the gate's name that is not as it should be, asked for by their number as in
+// `put_rows`; the number past the last where all are, as `first_unfit` of specs/Packing.antt gives it.
 fn first_unfit(line: &[u8], kind: usize, n: usize) -> usize
     requires kind_bound { kind ≤ 2 }
     requires n_bound { n ≤ 11 }
@@ -380,7 +372,8 @@ fn line_verdict(line: &[u8], kind: usize, cases: usize, there: usize) -> Result<
     bytes_verdict(cases, named_bytes(line, kind + 3, cases), there)
 }
 
-// What is wrong first behind the gate's name, if anything is.
+// What is wrong first behind the gate's name, if anything is. Line, kind and count stay three arguments, as they
+// are in `verdict_of`: a struct of them would be taken apart at each word.
 fn verdict(line: &[u8], bytes: &[u8], kind: usize, cases: usize) -> Result<(), PackingError>
     requires { kind ≤ 2 }
     ensures { result ≡ verdict_of kind cases line.now bytes.now }

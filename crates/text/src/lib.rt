@@ -67,7 +67,8 @@ impl<const N: usize> Page<N> {
         }
     }
 
-    // A number in decimal.
+    // A number in decimal. Not by `write!`: a page drops what does not fit, so that would be a second way to put,
+    // with a Result that nobody could use.
     pub fn put_number(&mut self, n: u64)
         ensures { Wrote 20 (decimal n) self.old self.new }
     {
@@ -85,7 +86,7 @@ impl<const N: usize> Page<N> {
         self.put_hex(&octets::be_bytes64(n));
     }
 
-    // Bytes as hexadecimal digits.
+    // Bytes as hexadecimal digits. By hand for the reason at `put_number`.
     pub fn put_hex(&mut self, bytes: &[u8])
         ensures { Wrote (2 * length bytes.now) (hex bytes.now) self.old self.new }
     {
@@ -126,7 +127,8 @@ impl<const N: usize> Page<N> {
         self.put(b"\n");
     }
 
-    // The line of the row in which a nullifier that is refused as spent stands; of any other answer nothing.
+    // The line of the row in which a nullifier that is refused as spent stands; of any other answer nothing. The 8
+    // stands here as in `spent_row_line`: a method of `Answer` would be a public call for this one line.
     fn put_spent_row(&mut self, a: Answer)
         ensures { Wrote 25 (spent_row_line a) self.old self.new }
     {

@@ -10,7 +10,8 @@ ghost use Rattle.vectors.specs.Lines.{digest_line, refused_line};
 use text::Page;
 use tree::Tree;
 
-// The line of a digest, on a page that has room for a name of 64 bytes and a digest of 64.
+// The line of a digest, on a page that has room for a name of 64 bytes and a digest of 64. Names are literals, so
+// each call settles the bound by itself: a type for names would be made at each.
 fn digest_page(name: &[u8], bytes: &[u8]) -> Page<256>
     requires { length name.now + 2 * length bytes.now ≤ 254 }
     ensures { Holds 256 (digest_line name.now bytes.now) result }

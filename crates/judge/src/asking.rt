@@ -26,8 +26,7 @@ use units::{Row, Which};
 pub fn room_in(most: usize, len: usize) -> usize
     ensures { result ≡ room_in most len }
 {
-    let n = len / 32;
-    if n <= most { n } else { most }
+    (len / 32).min(most)
 }
 
 // Whether the ledger is damaged. The counts are tested before any row is read.

@@ -97,9 +97,8 @@ fn put_steps(judgement: &mut [u8], steps: u8)
 fn put_answer(judgement: &mut [u8], a: Answer)
     ensures { judgement.new ≡ with_answer a judgement.old }
 {
-    let row = a.row;
-    let k = row.index();
-    let bytes = [a.number, a.place, (k % 256) as u8, (k / 256 % 256) as u8];
+    let [low, high] = octets::le_bytes16((a.row.index() % 65536) as u16);
+    let bytes = [a.number, a.place, low, high];
     octets::copy_in(judgement, 2, &bytes);
 }
 

@@ -1,7 +1,8 @@
 // What the ledger says of a case's public part, before the case is entered: damage, room, anchor,
-// nullifiers and, after the witness, the pool; and what that part says for itself, between these. Of the ledger this needs its counts alone,
-// so that a refusal never reads the tree's nodes, and a field of the case is read when it is asked about.
-// How the lent rows are walked is left to table.rt and roll.rt.
+// nullifiers and, after the witness, the pool; and what that part says for itself, between these. Of the
+// ledger this needs its counts alone, so that a refusal never reads the tree's nodes, and a field of the
+// case is read when it is asked about. How the lent rows are walked is left to table.rt and roll.rt.
+// Table and roll stay two arguments: a host lends them apart, and a case writes one while it reads the other.
 ghost use Rattle.std.specs.Prelude.{◌≡◌, true, ◌*◌, ◌≤◌, length};
 ghost use Rattle.refusals.specs.Rules.{first, rules_in, lower, refuses_up_to};
 ghost use Rattle.refusals.specs.Reasons.{as_answer};

@@ -123,7 +123,7 @@ pub fn close(table: &[u8], roll: &mut [u8], ledger: Ledger) -> Answered
     }
 }
 
-// The same on a ledger that is kept as bytes, of which a refusal reads the counts alone.
+// The same on a ledger that is kept as bytes, of whose 988 a refusal reads the 28 of the counts alone.
 pub fn close_kept(table: &[u8], roll: &mut [u8], kept: &mut [u8]) -> Result<(), Refusal>
     ensures value { as_answer result ≡ first (close_refusals table.now roll.old (ledger_of kept.old)) }
     ensures roll_after { roll.new ≡ roll_after_close table.now roll.old (ledger_of kept.old) }
@@ -203,7 +203,7 @@ fn enter_kept(case: &[u8], table: &mut [u8], kept: &mut [u8])
     ledgerbytes::write(kept, after);
 }
 
-// The same on a ledger that is kept as bytes, of which a refusal reads the counts alone.
+// The same on a ledger that is kept as bytes, of whose 988 a refusal reads the 28 of the counts alone.
 pub fn judge_kept(
     case: &[u8],
     table: &mut [u8],

@@ -48,7 +48,8 @@ fn rises_to(rows: &[[u8; 32]]) -> &[[u8; 32]]
     rest
 }
 
-// Whether the first count rows strictly rise. For this crate alone, which tests the count before.
+// Whether the first count rows strictly rise. By `rises_to`, where the library's `is_sorted_by` takes one row a
+// turn. For this crate alone, which tests the count before.
 pub fn is_rising(table: &[u8], count: usize) -> bool
     requires { count * 32 ≤ length table.now }
     ensures { result ≡ rising byte_order (rows_of count table.now) }
@@ -64,9 +65,10 @@ pub fn is_rising(table: &[u8], count: usize) -> bool
     true
 }
 
-// Where a row stands among the first count, or, as an `Err`, the gap for it. It is above all rows before low, and below
-// row high and all after it; each comparison leaves at most half of the rows between, where the library's search
-// takes one more. For this crate alone, which asks it of a table that rises.
+// Where a row stands among the first count, or, as an `Err`, the gap for it. It is above all rows before low, and
+// below row high and all after it; each comparison leaves at most half of the rows between, so that 16 are enough
+// for 65,534 rows. The library's search takes one more, some 20 instructions. For this crate alone, which asks it
+// of a table that rises.
 pub fn search(table: &[u8], count: usize, row: &[u8; 32]) -> Result<Row, Row>
     requires count_in_bounds { count * 32 ≤ length table.now }
     requires table_rises { rising byte_order (rows_of count table.now) ≡ true }

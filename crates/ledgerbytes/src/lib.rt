@@ -22,6 +22,20 @@ pub struct Counts {
     pub pool: Amount,
 }
 
+// The part of a ledger that refusals depend on.
+impl From<Ledger> for Counts {
+    ghost from_gives = { λ ledger counts. counts ≡ counts_of ledger };
+
+    fn from(ledger: Ledger) -> Counts {
+        Counts {
+            nullifiers: ledger.nullifiers,
+            anchors: ledger.anchors,
+            leaves: ledger.tree.leaves,
+            pool: ledger.pool,
+        }
+    }
+}
+
 // The counts of the ledger that the bytes hold; its nodes are not read.
 pub fn read_counts(bytes: &[u8]) -> Counts
     ensures { result ≡ counts_of (ledger_of bytes.now) }

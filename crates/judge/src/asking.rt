@@ -17,6 +17,7 @@ ghost use Rattle.judge.specs.Settling.{kept_unless, own_or};
 
 use crate::money::is_outside;
 use crate::roll::stands_on;
+use crate::rows::rows_in;
 use crate::table::{is_rising, search};
 use ledger::{MOST_ANCHORS, MOST_NULLIFIERS};
 use ledgerbytes::Counts;
@@ -54,7 +55,7 @@ fn is_damaged(table: &[u8], roll: &[u8], counts: Counts) -> bool
     if !counts.pool.is_money() {
         return true;
     }
-    !is_rising(table, n)
+    !is_rising(rows_in(table, n))
 }
 
 // 2
@@ -88,7 +89,7 @@ fn is_anchored(roll: &[u8], counts: Counts, case: &[u8]) -> Result<(), Refusal>
     ensures { as_answer result ≡ first (no6 roll.now (bare counts) (anchor_of case.now)) }
 {
     let anchor = casefile::anchor(case);
-    if stands_on(roll, counts.anchors, &anchor) {
+    if stands_on(rows_in(roll, counts.anchors), &anchor) {
         Ok(())
     } else {
         Err(Refusal::NoAnchor)
@@ -102,7 +103,7 @@ fn look_up(table: &[u8], counts: Counts, case: &[u8], i: Which) -> Result<Row, R
     ensures { result ≡ find byte_order (nullifier_of (number_of i) case.now) (spent_rows table.now (bare counts)) }
 {
     let nullifier = casefile::nullifier(case, i);
-    search(table, counts.nullifiers, &nullifier)
+    search(rows_in(table, counts.nullifiers), &nullifier)
 }
 
 // 8, with the row where it stands. In an empty table nothing is looked for.

@@ -197,7 +197,7 @@ def call_of(item, sized):
         for size in sizes:
             kind = re.sub(rf"\b{size}\b", SIZE, kind)
         lent = re.match(r"&(?:'a )?(mut )?", kind)
-        kind = re.sub(r"^\[([^;]*)\]$", r"Vec<\1>", kind[lent.end() :]) if lent else kind
+        kind = re.sub(r"^\[(\[.*\]|[^;]*)\]$", r"Vec<\1>", kind[lent.end() :]) if lent else kind
         lets += f"let mut a{number}: {HANDED.get(kind, kind)} = d.draw(); "
         given.append(f"&{lent[1] or ''}a{number}" if lent else f"a{number}")
     told = f"crate::told(&({''.join(f'&a{n}, ' for n in range(len(given)))}))"

@@ -24,11 +24,11 @@ fn words((what, index): (&str, usize)) -> String {
 }
 
 /// What is wrong with a search, if anything is; and the comparisons that it took.
-fn searched(table: &[u8], rows: usize, number: usize) -> (Option<String>, u32) {
+fn searched(table: &[[u8; 32]], number: usize) -> (Option<String>, u32) {
     choose(variant());
     counted();
-    let row = numbered(rows, number);
-    let place = match catch_unwind(AssertUnwindSafe(|| search(table, rows, &row))) {
+    let row = numbered(table.len(), number);
+    let place = match catch_unwind(AssertUnwindSafe(|| search(table, &row))) {
         Ok(Ok(row)) => Some(("row", row.index())),
         Ok(Err(row)) => Some(("gap", row.index())),
         Err(_) => None,
@@ -37,7 +37,7 @@ fn searched(table: &[u8], rows: usize, number: usize) -> (Option<String>, u32) {
     let right = (["gap", "row"][number % 2], number / 2);
     let wrong = if place != Some(right) {
         Some(format!("gives {} for {}", place.map_or("a stop".to_string(), words), words(right)))
-    } else if took > enough(rows) {
+    } else if took > enough(table.len()) {
         Some(format!("takes {took} comparisons to {}", words(right)))
     } else {
         None
@@ -47,10 +47,10 @@ fn searched(table: &[u8], rows: usize, number: usize) -> (Option<String>, u32) {
 
 /// The most comparisons that a search of so many rows takes, or what is wrong with one.
 pub fn most_comparisons(rows: usize) -> Result<u32, String> {
-    let table: Vec<u8> = (0..rows).flat_map(|row| numbered(rows, 2 * row + 1)).collect();
+    let table: Vec<[u8; 32]> = (0..rows).map(|row| numbered(rows, 2 * row + 1)).collect();
     let mut most = 0;
     for number in 0..=2 * rows {
-        let (wrong, took) = searched(&table, rows, number);
+        let (wrong, took) = searched(&table, number);
         if let Some(wrong) = wrong {
             return Err(format!("search {rows}: {wrong}"));
         }

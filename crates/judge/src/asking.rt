@@ -1,7 +1,8 @@
 // What the ledger says of a case's public part, before the case is entered: damage, room, anchor,
-// nullifiers and, after the witness, the pool; and what that part says for itself, between these. Of the ledger this needs its counts alone,
-// so that a refusal never reads the tree's nodes, and a field of the case is read when it is asked about.
-// How the lent rows are walked is left to table.rt and roll.rt.
+// nullifiers and, after the witness, the pool; and what that part says for itself, between these. Of the
+// ledger this needs its counts alone, so that a refusal never reads the tree's nodes, and a field of the
+// case is read when it is asked about. How the lent rows are walked is left to table.rt and roll.rt.
+// Table and roll stay two arguments: a host lends them apart, and a case writes one while it reads the other.
 ghost use Rattle.std.specs.Prelude.{◌≡◌, true, ◌*◌, ◌≤◌, length};
 ghost use Rattle.refusals.specs.Rules.{first, rules_in, lower, refuses_up_to};
 ghost use Rattle.refusals.specs.Reasons.{as_answer};
@@ -16,6 +17,7 @@ ghost use Rattle.judge.specs.Settling.{kept_unless, own_or};
 
 use crate::money::is_outside;
 use crate::roll::stands_on;
+use crate::rows::rows_in;
 use crate::table::{is_rising, search};
 use ledger::{MOST_ANCHORS, MOST_NULLIFIERS};
 use ledgerbytes::Counts;
@@ -26,8 +28,7 @@ use units::{Row, Which};
 pub fn room_in(most: usize, len: usize) -> usize
     ensures { result ≡ room_in most len }
 {
-    let n = len / 32;
-    if n <= most { n } else { most }
+    (len / 32).min(most)
 }
 
 // Whether the ledger is damaged. The counts are tested before any row is read.
@@ -54,7 +55,7 @@ fn is_damaged(table: &[u8], roll: &[u8], counts: Counts) -> bool
     if !counts.pool.is_money() {
         return true;
     }
-    !is_rising(table, n)
+    !is_rising(rows_in(table, n))
 }
 
 // 2
@@ -88,7 +89,7 @@ fn is_anchored(roll: &[u8], counts: Counts, case: &[u8]) -> Result<(), Refusal>
     ensures { as_answer result ≡ first (no6 roll.now (bare counts) (anchor_of case.now)) }
 {
     let anchor = casefile::anchor(case);
-    if stands_on(roll, counts.anchors, &anchor) {
+    if stands_on(rows_in(roll, counts.anchors), &anchor) {
         Ok(())
     } else {
         Err(Refusal::NoAnchor)
@@ -102,7 +103,7 @@ fn look_up(table: &[u8], counts: Counts, case: &[u8], i: Which) -> Result<Row, R
     ensures { result ≡ find byte_order (nullifier_of (number_of i) case.now) (spent_rows table.now (bare counts)) }
 {
     let nullifier = casefile::nullifier(case, i);
-    search(table, counts.nullifiers, &nullifier)
+    search(rows_in(table, counts.nullifiers), &nullifier)
 }
 
 // 8, with the row where it stands. In an empty table nothing is looked for.

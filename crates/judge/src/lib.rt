@@ -20,7 +20,7 @@ ghost use Rattle.casefile.specs.Fields.{vpub_old_of, vpub_new_of, nullifier_of, 
 ghost use Rattle.tree.specs.Record.{record_root};
 ghost use Rattle.ledger.specs.Rows.{table_with_two as entered_rows};
 ghost use Rattle.ledger.specs.Ledgers.{most_anchors, room_in, entered_of, Ready, close_refusals, closed_of, roll_after_close, empty_ledger, open_refusals, opened_of, roll_after_open};
-ghost use Rattle.ledgerbytes.specs.LedgerBytes.{counts_of, bare, ledger_of, buffer_after_write};
+ghost use Rattle.ledgerbytes.specs.LedgerBytes.{bare, ledger_of, buffer_after_write};
 ghost use Rattle.judge.specs.Judging.{answer_of, ledger_after_case, judged_of, table_after_case};
 ghost use Rattle.judge.specs.Settling.{own_counted, settled_answer, ledger_after_settling, table_after_settling};
 ghost use Rattle.judge.specs.Kept.{kept_after};
@@ -65,19 +65,6 @@ pub fn open(roll: &mut [u8]) -> Answered
     }
 }
 
-// The part of a ledger that refusals depend on.
-fn counts_of(ledger: Ledger) -> Counts
-    ensures { result ≡ counts_of ledger }
-{
-    let pool = ledger.pool;
-    Counts {
-        nullifiers: ledger.nullifiers,
-        anchors: ledger.anchors,
-        leaves: ledger.tree.leaves,
-        pool,
-    }
-}
-
 // Whether a block can be closed.
 fn closing(table: &[u8], roll: &[u8], counts: Counts) -> Result<(), Refusal>
     ensures { as_answer result ≡ first (close_refusals table.now roll.now (bare counts)) }
@@ -110,7 +97,7 @@ pub fn close(table: &[u8], roll: &mut [u8], ledger: Ledger) -> Answered
     ensures ledger_value { result.ledger ≡ closed_of table.now roll.old ledger }
     ensures roll_after { roll.new ≡ roll_after_close table.now roll.old ledger }
 {
-    if let Err(refusal) = closing(table, &*roll, counts_of(ledger)) {
+    if let Err(refusal) = closing(table, &*roll, Counts::from(ledger)) {
         return Answered {
             answer: Answer::from(refusal),
             ledger,
@@ -123,7 +110,7 @@ pub fn close(table: &[u8], roll: &mut [u8], ledger: Ledger) -> Answered
     }
 }
 
-// The same on a ledger that is kept as bytes, of which a refusal reads the counts alone.
+// The same on a ledger that is kept as bytes, of whose 988 a refusal reads the 28 of the counts alone.
 pub fn close_kept(table: &[u8], roll: &mut [u8], kept: &mut [u8]) -> Result<(), Refusal>
     ensures value { as_answer result ≡ first (close_refusals table.now roll.old (ledger_of kept.old)) }
     ensures roll_after { roll.new ≡ roll_after_close table.now roll.old (ledger_of kept.old) }
@@ -179,7 +166,7 @@ pub fn judge(case: &[u8], table: &mut [u8], roll: &[u8], ledger: Ledger) -> Answ
     ensures value { result ≡ judged_of case.now table.old roll.now ledger }
     ensures table_after { table.new ≡ table_after_case case.now table.old roll.now ledger }
 {
-    if let Err(refusal) = answered(case, &*table, roll, counts_of(ledger)) {
+    if let Err(refusal) = answered(case, &*table, roll, Counts::from(ledger)) {
         return Answered {
             answer: Answer::from(refusal),
             ledger,
@@ -203,7 +190,7 @@ fn enter_kept(case: &[u8], table: &mut [u8], kept: &mut [u8])
     ledgerbytes::write(kept, after);
 }
 
-// The same on a ledger that is kept as bytes, of which a refusal reads the counts alone.
+// The same on a ledger that is kept as bytes, of whose 988 a refusal reads the 28 of the counts alone.
 pub fn judge_kept(
     case: &[u8],
     table: &mut [u8],

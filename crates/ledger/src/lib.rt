@@ -22,6 +22,7 @@ pub struct Ledger {
 }
 
 // An answer, and the ledger after it.
+// Not a Result: `open` hands out a ledger with its refusal too, and `judged_of` has both after either answer.
 #[derive(Clone, Copy)]
 pub struct Answered {
     pub answer: Answer,

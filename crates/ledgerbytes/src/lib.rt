@@ -12,13 +12,28 @@ use units::Amount;
 // How many bytes a ledger has.
 pub const LEDGER_LENGTH: usize = 988;
 
-// A ledger without its record's nodes: all that is asked about before a case is entered or a block closed.
+// A ledger without its record's nodes: all that is asked about before a case is entered or a block closed, so
+// that a refusal reads 28 of the 988 bytes.
 #[derive(Clone, Copy)]
 pub struct Counts {
     pub nullifiers: usize,
     pub anchors: usize,
     pub leaves: u32,
     pub pool: Amount,
+}
+
+// The part of a ledger that refusals depend on.
+impl From<Ledger> for Counts {
+    ghost from_gives = { λ ledger counts. counts ≡ counts_of ledger };
+
+    fn from(ledger: Ledger) -> Counts {
+        Counts {
+            nullifiers: ledger.nullifiers,
+            anchors: ledger.anchors,
+            leaves: ledger.tree.leaves,
+            pool: ledger.pool,
+        }
+    }
 }
 
 // The counts of the ledger that the bytes hold; its nodes are not read.

@@ -22,6 +22,7 @@ pub const JUDGEMENT_LENGTH: usize = 4280;
 const CASE_AT: usize = 70;
 
 // What a step before the last answers, with how many steps were taken.
+// Numbers, since the record keeps them and may hold any: 254 and the steps are what `not_yet` promises.
 fn not_yet(steps: u8) -> Answer
     ensures { result ≡ not_yet steps }
 {
@@ -36,6 +37,7 @@ fn steps_in(judgement: &[u8]) -> u8
 }
 
 // The case that a record holds, as a part of it: nothing is copied. Where it holds none, no bytes.
+// The edition stays a byte: the record may hold any, and one that is neither reads as no case (`case_in`).
 fn case_in<'a>(judgement: &'a [u8]) -> &'a [u8]
     ensures { result.now ≡ case_in judgement.now }
 {
@@ -59,6 +61,7 @@ fn holds_case(judgement: &[u8]) -> bool
 }
 
 // Where the node of old note i's path lies.
+// Written out, since `spot` is private to `casefile`, and the record's layout is this crate's.
 fn node_at(i: Which) -> usize
     ensures { result ≡ node_at (number_of i) }
 {
@@ -97,9 +100,8 @@ fn put_steps(judgement: &mut [u8], steps: u8)
 fn put_answer(judgement: &mut [u8], a: Answer)
     ensures { judgement.new ≡ with_answer a judgement.old }
 {
-    let row = a.row;
-    let k = row.index();
-    let bytes = [a.number, a.place, (k % 256) as u8, (k / 256 % 256) as u8];
+    let [low, high] = octets::le_bytes16((a.row.index() % 65536) as u16);
+    let bytes = [a.number, a.place, low, high];
     octets::copy_in(judgement, 2, &bytes);
 }
 
@@ -115,6 +117,7 @@ fn ancestor(position: Position, levels: usize) -> Position
 }
 
 // The parent of a node of this level on old note i's path.
+// A level is a usize below 29 here and in `tree::join`: a type would be made at two places and opened at all.
 fn parent_on(case: &[u8], i: Which, level: usize, node: &[u8; 32]) -> [u8; 32]
     requires { level < 29 }
     ensures { result ≡ parent_on level (number_of i) case.now node.now }
@@ -156,7 +159,7 @@ fn strays(judgement: &[u8], i: Which) -> bool
     statement::ends_elsewhere(case_in(judgement), i, &end)
 }
 
-// 10, by the two path ends held.
+// 10, by the two path ends held. Not by `statement::paths`, which climbs both paths anew.
 fn ends(judgement: &[u8]) -> Result<(), Refusal>
     ensures { as_answer result ≡ first (held10 judgement.now) }
 {
@@ -207,6 +210,7 @@ fn settle(judgement: &mut [u8], table: &mut [u8], roll: &[u8], kept: &mut [u8]) 
 }
 
 // Takes the next step, whichever it is, on the ledger that is lent to it. A record without a case is refused with 1.
+// A switch over the count, not a closure: the record outlives power, and bytes keep a number alone.
 pub fn step(judgement: &mut [u8], table: &mut [u8], roll: &[u8], kept: &mut [u8]) -> Answer
     ensures value { result ≡ step_answer judgement.old table.old roll.now (ledger_of kept.old) }
     ensures judgement_after { judgement.new ≡ record_after_step judgement.old table.old roll.now (ledger_of kept.old) }

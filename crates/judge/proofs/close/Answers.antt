@@ -9,10 +9,10 @@ use Rattle.judge.proofs.close.Goals as goal
 pub returns-in-Err : goal.returns-in-Err
 returns-in-Err c =
     let a = c.args in
-    let d = c.in-Err.ensures ∙ closing_bare a.table.now a.roll.now a.ledger _ c.counts_of.ensures in
+    let d = c.in-Err.ensures ∙ closing_bare a.table.now a.roll.now a.ledger _ c.from.ensures in
     let no = close_refused a.table.now a.roll.now a.ledger (ap is_accepted (sym d) ∙ never_accepted _) in
     record {
-      answer_value = c.from.ensures ∙ d;
+      answer_value = c.from-in-Err.ensures ∙ d;
       ledger_value = no.0;
       roll_after = no.1;
     }
@@ -20,13 +20,13 @@ returns-in-Err c =
 pub closed-next-requires : goal.closed-next-requires
 closed-next-requires c =
     let a = c.args in
-    let d = c.in_default.ensures ∙ closing_bare a.table.now a.roll.now a.ledger _ c.counts_of.ensures in
+    let d = c.in_default.ensures ∙ closing_bare a.table.now a.roll.now a.ledger _ c.from.ensures in
     close_free a.table.now a.roll.now a.ledger (ap is_accepted (sym d))
 
 pub returns : goal.returns
 returns c =
     let a = c.args in
-    let d = c.in_default.ensures ∙ closing_bare a.table.now a.roll.now a.ledger _ c.counts_of.ensures in
+    let d = c.in_default.ensures ∙ closing_bare a.table.now a.roll.now a.ledger _ c.from.ensures in
     let yes = close_passed a.table.now a.roll.now a.ledger (ap is_accepted (sym d)) in
     record {
       answer_value = c.accepted.ensures ∙ d;

@@ -11,23 +11,23 @@ use Rattle.judge.proofs.judge.Goals as goal
 pub returns-in-Err : goal.returns-in-Err
 returns-in-Err c =
     let a = c.args in
-    let d = c.in-Err.ensures ∙ answered_bare a.table.now a.roll.now a.ledger _ c.counts_of.ensures a.case.now in
+    let d = c.in-Err.ensures ∙ answered_bare a.table.now a.roll.now a.ledger _ c.from.ensures a.case.now in
     let no = ap is_accepted (sym d) ∙ never_accepted _ in
     record {
-      value = judged a.case.now a.table.now a.roll.now a.ledger _ a.ledger (c.from.ensures ∙ d) (sym (refused_ledger a.case.now a.table.now a.roll.now a.ledger no));
+      value = judged a.case.now a.table.now a.roll.now a.ledger _ a.ledger (c.from-in-Err.ensures ∙ d) (sym (refused_ledger a.case.now a.table.now a.roll.now a.ledger no));
       table_after = sym (refused_table a.case.now a.table.now a.roll.now a.ledger no);
     }
 
 pub entered-after-requires : goal.entered-after-requires
 entered-after-requires c =
     let a = c.args in
-    let d = c.in_default.ensures ∙ answered_bare a.table.now a.roll.now a.ledger _ c.counts_of.ensures a.case.now in
+    let d = c.in_default.ensures ∙ answered_bare a.table.now a.roll.now a.ledger _ c.from.ensures a.case.now in
     ready a.case.now a.table.now a.roll.now a.ledger (eqb-true _ 0 (ap is_accepted (sym d)))
 
 pub returns : goal.returns
 returns c =
     let a = c.args in
-    let d = c.in_default.ensures ∙ answered_bare a.table.now a.roll.now a.ledger _ c.counts_of.ensures a.case.now in
+    let d = c.in_default.ensures ∙ answered_bare a.table.now a.roll.now a.ledger _ c.from.ensures a.case.now in
     let accepts = ap is_accepted (sym d) in
     record {
       value = judged a.case.now a.table.now a.roll.now a.ledger _ _ (c.accepted.ensures ∙ d) (c.entered-after.ensures.value ∙ sym (accepted_ledger a.case.now a.table.now a.roll.now a.ledger accepts));

@@ -1,7 +1,5 @@
-use mathlib.Core.Path.{◌≡◌, sym, ap, ◌∙◌}
+use mathlib.Core.Path.{◌≡◌, sym, ap, ap₂, ◌∙◌}
 use mathlib.Core.Bool.{not}
-use mathlib.Core.List.{List}
-use Prim.Native.Nat.{ℕ}
 use Rattle.octets.specs.Rows.{rows_of}
 use Rattle.refusals.proofs.RuleLaws.{one_holds, one_fails}
 use Rattle.casefile.specs.Fields.{anchor_of}
@@ -14,7 +12,7 @@ unfolding no6 anchor_rows
 returns-then-stands_on c =
     let found : let a = c.args in
     c.stands_on.result ≡ among (anchor_of a.case.now) (rows_of a.counts.anchors a.roll.now) = let a = c.args in
-    c.stands_on.ensures ∙ ap (λ (x : List ℕ). among x (rows_of a.counts.anchors a.roll.now)) c.anchor-anchor.ensures in
+    c.stands_on.ensures ∙ ap₂ among c.anchor-anchor.ensures c.rows_in.ensures.rows in
     one_fails _ 6 0 (ap not (sym (found) ∙ c.if-stands_on.true))
 
 pub returns-else-stands_on : goal.returns-else-stands_on
@@ -22,5 +20,5 @@ unfolding no6 anchor_rows
 returns-else-stands_on c =
     let found : let a = c.args in
     c.stands_on.result ≡ among (anchor_of a.case.now) (rows_of a.counts.anchors a.roll.now) = let a = c.args in
-    c.stands_on.ensures ∙ ap (λ (x : List ℕ). among x (rows_of a.counts.anchors a.roll.now)) c.anchor-anchor.ensures in
+    c.stands_on.ensures ∙ ap₂ among c.anchor-anchor.ensures c.rows_in.ensures.rows in
     one_holds _ 6 0 (ap not (sym (found) ∙ c.if-stands_on.false))

@@ -7,6 +7,8 @@ use lib.ListN.{length}
 use native.Mathlib.Omega.{arith}
 use borrow.Author.Tests.{eq-eqb, ne_eqb, lt-ltb, le-ltb, leb-true, leb-false, not-true, not-false}
 use Rattle.units.specs.Limits.{max_money}
+use Rattle.ledger.specs.Sorted.{rising}
+use Rattle.ledger.specs.Rows.{byte_order}
 use Rattle.ledger.specs.Ledgers.{most_nullifiers, most_anchors, room_in, spent_rows, some, damage, damaged}
 use Rattle.ledger.proofs.Soundness.{some_at, within}
 use Rattle.ledgerbytes.specs.LedgerBytes.{bare}
@@ -53,8 +55,8 @@ returns-then-not-is_money c =
     let above : leb a.counts.pool.0 max_money ≡ false = sym c.is_money.ensures ∙ not-true _ (ap not c.if-not-is_money.true) in
     some_at (damage a.table.now a.roll.now (bare a.counts)) 6 (lt-ltb max_money a.counts.pool.0 (leb-false a.counts.pool.0 max_money above))
 
-pub is_rising-requires : goal.is_rising-requires
-is_rising-requires c =
+pub rows_in-requires : goal.rows_in-requires
+rows_in-requires c =
     let fits : let a = c.args in a.counts.nullifiers ≤ room_in most_nullifiers (length a.table.now) = omega arith in
     let a = c.args in
     within a.counts.nullifiers most_nullifiers (length a.table.now) (fits)
@@ -73,4 +75,4 @@ returns c =
     let on-roll : ltb (room_in most_anchors (length a.roll.now)) l.anchors ≡ false = le-ltb _ _ h in
     let money : leb l.pool.0 max_money ≡ true = sym c.is_money.ensures ∙ not-false _ (ap not c.if-not-is_money.false) in
     let within-money : ltb max_money l.pool.0 ≡ false = le-ltb max_money l.pool.0 (leb-true l.pool.0 max_money money) in
-    ap not c.is_rising.ensures ∙ rw (even, roomy, leaves, some-anchor, on-roll, within-money) (sym (or-false _))
+    ap not (c.is_rising.ensures ∙ ap (rising byte_order) c.rows_in.ensures.rows) ∙ rw (even, roomy, leaves, some-anchor, on-roll, within-money) (sym (or-false _))

@@ -1,6 +1,6 @@
 -- The row looked for is above the one just before low and below the one at high, and the table rises: so it can stand only between, and once nothing is between, it goes to low.
 -- The measure is not the rows between but the binary digits of their number. Each turn takes off one at least, which bounds the comparisons.
-use mathlib.Core.Path.{◌≡◌, sym, ap, ◌∙◌}
+use mathlib.Core.Path.{◌≡◌, sym, ◌∙◌}
 use mathlib.Core.List.{List, []}
 use Prim.Native.Nat.{ℕ, suc, ◌+◌, ◌-◌, ◌/◌, ◌<◌, ◌≤◌}
 use native.Mathlib.Omega.{arith}
@@ -36,7 +36,7 @@ bounds-rows-mid c =
     let l = c.loop-low in
     let in_table = l.invariant.in_table in
     let below : l.low + (l.high - l.low) / 2 < l.high = (half_way l.low l.high c.loop-low-test.true).1 in
-    omega (arith, c.rows_in-rows.ensures.len)
+    omega arith
 
 pub loop-low-smaller-in-Less : goal.loop-low-smaller-in-Less
 loop-low-smaller-in-Less c =
@@ -45,12 +45,10 @@ loop-low-smaller-in-Less c =
 
 pub returns-in-Equal : goal.returns-in-Equal
 returns-in-Equal c =
-    let rows = c.rows_in-rows in
     let l = c.loop-low in
     let in_table = l.invariant.in_table in
     let below : l.low + (l.high - l.low) / 2 < l.high = (half_way l.low l.high c.loop-low-test.true).1 in
-    stands rows.result.now c.args.row.now c.of.result (l.low + (l.high - l.low) / 2) c.of.ensures (rw rows.ensures.rows c.requires.table_rises) (omega (arith, rows.ensures.len)) (sym c.compare.ensures ∙ c.in-Equal.is)
-    ∙ ap (find byte_order c.args.row.now) rows.ensures.rows
+    stands c.args.rows.now c.args.row.now c.of.result (l.low + (l.high - l.low) / 2) c.of.ensures c.requires (omega arith) (sym c.compare.ensures ∙ c.in-Equal.is)
 
 pub loop-low-smaller : goal.loop-low-smaller
 loop-low-smaller c =
@@ -59,10 +57,8 @@ loop-low-smaller c =
 
 pub returns : goal.returns
 returns c =
-    let rows = c.rows_in-rows in
     let l = c.loop-low in
     let same : l.high ≡ l.low = omega (arith, l.invariant.in_order) in
-    let within : l.low ≤ length rows.result.now = omega (arith, l.invariant.in_table, rows.ensures.len) in
-    goes rows.result.now c.args.row.now c.of-2.result l.low c.of-2.ensures (rw rows.ensures.rows c.requires.table_rises) within l.invariant.above
-    (λ h. let used : l.high < c.args.count = omega (arith, rows.ensures.len) in rw same at (l.invariant.below used))
-    ∙ ap (find byte_order c.args.row.now) rows.ensures.rows
+    let within : l.low ≤ length c.args.rows.now = omega (arith, l.invariant.in_table) in
+    goes c.args.rows.now c.args.row.now c.of-2.result l.low c.of-2.ensures c.requires within l.invariant.above
+    (λ h. let used : l.high < length c.args.rows.now = omega arith in rw same at (l.invariant.below used))

@@ -4,7 +4,7 @@ use mathlib.Core.Path.{◌≡◌}
 use mathlib.Core.List.{[]}
 use Prim.Native.Nat.{ℕ, suc, ◌-◌, ◌<◌, ◌≤◌}
 use lib.Ieee.{size}
-use lib.ListN.{get_or}
+use lib.ListN.{length, get_or}
 use Rattle.std.specs.declared.cmp.Ordering.TheVariants.{Less, Greater}
 use Rattle.ledger.specs.Rows.{byte_order}
 use Rattle.judge.proofs.table.search.Given as goal
@@ -12,9 +12,9 @@ use Rattle.judge.proofs.table.search.Given as goal
 abbrev pub invariant-loop-low : goal.invariant-loop-low
 invariant-loop-low l = record {
   in_order : l.low ≤ l.high;
-  in_table : l.high ≤ l.count;
+  in_table : l.high ≤ length l.rows;
   above : (j : ℕ) → suc j ≡ l.low → byte_order l.row (get_or l.rows j []) ≡ Greater;
-  below : l.high < l.count → byte_order l.row (get_or l.rows l.high []) ≡ Less;
+  below : l.high < length l.rows → byte_order l.row (get_or l.rows l.high []) ≡ Less;
 }
 
 abbrev pub decreases-loop-low : goal.decreases-loop-low

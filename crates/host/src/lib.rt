@@ -140,6 +140,7 @@ pub fn snaldrek_proved_hash(bytes: &[u8], digest: &mut [u8]) -> u32
 }
 
 // A float's bits. Those of a NaN cannot be read, and the definitions have one pattern for it.
+// Beside the one of `replay`, which promises 0 for a NaN: the two patterns are two definitions.
 fn bits_of(x: f64) -> u64
     ensures { result ≡ to_bits binary64 x }
 {

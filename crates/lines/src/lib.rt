@@ -10,6 +10,7 @@ use std::io::Read;
 
 // Writes a whole text to standard output, and answers whether it could be written. The programs end with status 0 all
 // the same, so a failure is told on standard error.
+// A bool, since the reason is told there already and callers only ask whether to go on.
 pub fn print(rt: &(impl Print + Eprint), text: &[u8]) -> bool {
     if rt.write_all(text).is_ok() {
         return true;

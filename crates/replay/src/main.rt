@@ -32,7 +32,9 @@ type Sheet = Page<219136>;
 
 // What is kept from entry to entry: the ledger, how many bytes of each buffer are lent to it, and
 // whether the run goes on. The buffers are handed beside it: an entry that only looks is lent them for
-// reading, which the contract then need not promise, and no one struct could be lent so by halves.
+// reading, which the contract then need not promise, and no one struct could be lent so by halves. So each contract
+// that is handed them asks `LentWithin` anew.
+// A flag, since `nothing false` of specs/Tape.antt says of the ledger after the run too.
 #[derive(Clone, Copy)]
 pub struct State {
     pub on: bool,
@@ -42,6 +44,7 @@ pub struct State {
 }
 
 // An entry of the tape: its kind, and its body's length.
+// The kind stays the tape's byte: `entry_turn` is over it, and a byte of no kind breaks the tape off.
 #[derive(Clone, Copy)]
 pub struct Entry {
     pub kind: u8,
@@ -204,6 +207,7 @@ fn put_seal(page: &mut Sheet, body: &[u8])
 }
 
 // Whatever breaks the tape's layout ends the run.
+// 50 is this program's own and tray's: no library call answers it, so it has no name among refusals.
 fn break_off(page: &mut Sheet) -> State
     ensures state_value { result ≡ nothing_of false }
     ensures wrote { Wrote 47 (answer_line (ascii "tape") (answer 50 0)) page.old page.new }
@@ -293,7 +297,7 @@ fn lay_rows(bytes: &mut [u8], body: &[u8])
     let mut number = octets::le64(body, 8);
     for i in 0..rows {
         lay_row(&mut *bytes, (first + i) * 32, number, body);
-        number = std::num::wrapping_add_u64(number, step);
+        number = number.wrapping_add(step);
     }
 }
 
@@ -309,6 +313,7 @@ fn can_lay(body: &[u8], lent: usize) -> bool
     false
 }
 
+// This and `run_roll` are two, since each is lent for writing only the buffer that it fills.
 fn run_table(body: &[u8], table: &mut [u8], roll: &[u8], state: State, page: &mut Sheet) -> State
     requires { LentWithin state table.old roll.now }
     ensures { Plays (table_turn body.now table.old roll.now state) table.new roll.now page.old page.new result }
@@ -515,6 +520,7 @@ fn run_other(
     run_lay(kind, body, table, roll, state, page)
 }
 
+// A match over bytes, not a table of calls: each is lent other buffers for writing, so no one type fits.
 fn run(
     kind: u8,
     body: &[u8],

@@ -57,7 +57,7 @@ impl From<SealRefusal> for Answer {
     }
 }
 
-// A judged seal's answer.
+// A judged seal's answer. A call, not From: neither Result nor Answer is this crate's own.
 pub fn answer(sealed: Result<f64, SealRefusal>) -> Answer
     ensures { result ≡ seal_answer sealed }
 {
@@ -121,6 +121,7 @@ fn is_within(g: Gate, p: f64) -> bool
 }
 
 // The refusals in their order: the first that applies is the answer.
+// Gate and reading stay two arguments: `judge_of` of specs/Pull.antt is over the two.
 pub fn judge(c: Calibration, g: Gate, raw: f64) -> Result<f64, SealRefusal>
     ensures { result ≡ judge_of c g raw }
 {

@@ -80,6 +80,7 @@ fn name_page(name: &[u8]) -> Page<640>
 }
 
 // The refusal of what is neither a whole bag nor a whole name.
+// 50 is this program's own and replay's: no library call answers it, so it has no name among refusals.
 fn broken_page() -> Page<640>
     ensures { Holds 640 (answer_line (ascii "tray") (answer 50 0)) result }
 {

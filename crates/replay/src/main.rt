@@ -4,7 +4,7 @@
 // is, is left to `judge`, `desk`, `ledger` and `seal`.
 #![tactic(auto)]
 
-ghost use Rattle.std.specs.Prelude.{◌≡◌, ◌+◌, ◌*◌, ◌^◌, ◌<◌, ◌≤◌, min, false, ◌++◌, length, take, drop, IsOk};
+ghost use Rattle.std.specs.Prelude.{◌≡◌, ◌+◌, ◌*◌, ◌^◌, ◌<◌, ◌≤◌, min, false, ◌++◌, length, take, drop};
 ghost use Rattle.octets.specs.Parts.{zeros};
 ghost use Rattle.refusals.specs.Rules.{first, answer};
 ghost use Rattle.sha256.specs.Hash.{sha256_of};
@@ -20,6 +20,7 @@ ghost use Rattle.replay.specs.Looks.{ledger_text, row_line, row_lines, rows_text
 ghost use Rattle.replay.specs.Tape.{nothing as nothing_of, running_on, can_lend, open_turn, plant_length, plant_turn, row_laid, laid_by, can_lay, table_turn, roll_turn, lay_turn, case_turn, desk_line, desk_on, desk_turn, fresh_turn, block_turn, look_turn, bare_turn, seal_turn, name_turn, other_turn, entry_turn, next_turn, entry_length, longest, LentWithin, Plays};
 
 use ledger::{Answered, Ledger};
+use lines::Broken;
 use refusals::Answer;
 use seal::{Calibration, SealRefusal};
 use std::io;
@@ -50,10 +51,6 @@ pub struct Entry {
     pub kind: u8,
     pub length: usize,
 }
-
-// What is no entry.
-#[derive(Clone, Copy)]
-pub struct Broken;
 
 // A ledger with nothing in it, not even an anchor, on buffers of no length.
 fn nothing(on: bool) -> State
@@ -139,9 +136,8 @@ fn put_rows(page: &mut Sheet, word: &[u8], n: usize, bytes: &[u8])
     requires { n * 32 ≤ length bytes.now }
     ensures { Wrote ((length word.now + 65) * n) (row_lines word.now n bytes.now) page.old page.new }
 {
-    for i in 0..n {
-        let row = octets::part(bytes, i * 32);
-        put_row(page, word, &row);
+    for row in bytes[..n * 32].as_chunks::<32>().0 {
+        put_row(page, word, row);
     }
 }
 
@@ -542,16 +538,6 @@ fn run(
     }
 }
 
-// Reads n bytes to the start of a buffer.
-fn read_whole(input: &mut impl io::Read, buffer: &mut [u8], n: usize) -> Result<(), Broken>
-    ensures { IsOk result → n ≤ length buffer.new }
-{
-    if buffer.len() < n || lines::read_full(input, &mut buffer[0..n]) < n {
-        return Err(Broken);
-    }
-    Ok(())
-}
-
 // Reads the next entry's body to the start of a buffer as long as the longest body. A read that fails
 // counts as the tape's end.
 fn read_next(input: &mut impl io::Read, buffer: &mut [u8]) -> Result<Option<Entry>, Broken>
@@ -566,7 +552,7 @@ fn read_next(input: &mut impl io::Read, buffer: &mut [u8]) -> Result<Option<Entr
         return Err(Broken);
     }
     let length = octets::le32(&head, 1) as usize;
-    read_whole(input, buffer, length)?;
+    lines::read_whole(input, buffer, length)?;
     Ok(Some(Entry {
         kind: head[0],
         length,

@@ -86,7 +86,7 @@ fn opened(table: &mut [u8], roll: &mut [u8]) -> Answered
 fn bits_of(pull: f64) -> u64
     ensures { result ≡ pull_bits pull }
 {
-    if pull != pull {
+    if pull.is_nan() {
         return 0;
     }
     f64::to_bits(pull)

@@ -26,8 +26,9 @@ struct Entry {
     size: u32,
 }
 
-// What scanning a bag gave. An answer that was not given is 255 and 0, which no refusal has, so that none
-// is ever taken for a pass. The product has no heap, so the answers are an array and a count.
+// What scanning a bag gave. An answer that was not given is 255 and 0, which no refusal has. It stays an Answer,
+// not an Option: `report` of specs/SealAndCases.antt is over it, and C is handed it as a number.
+// The product has no heap, so the answers are an array and a count.
 #[derive(Clone, Copy)]
 pub struct Scanned {
     pub layout: Answer,
@@ -138,6 +139,7 @@ fn unjudged(layout: Answer, seal: Answer, ledger: Ledger) -> Scanned
 }
 
 // Judges the cases in order. Each finds the table and the ledger as the one before left them.
+// Rows are read by number, as above: row i is case i, and its answer stands one before it.
 fn judge_cases(bag: &[u8], table: &mut [u8], roll: &[u8], start: Ledger) -> Scanned
     requires { laid_out bag.now ≡ true }
     ensures value { result ≡ report accepted accepted (judged_from table.old roll.now start (cases_of bag.now)).answers (judged_from table.old roll.now start (cases_of bag.now)).ledger }

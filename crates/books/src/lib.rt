@@ -69,6 +69,7 @@ pub fn count(t: &mut Tally, pass: bool) -> bool
 }
 
 // A row of the day list.
+// Number and place stay bytes: a row takes any answer of document 01, the host's own too, and keeps no row.
 #[derive(Clone, Copy)]
 pub struct DayRow {
     pub seal: u32,

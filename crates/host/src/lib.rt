@@ -140,10 +140,11 @@ pub fn snaldrek_proved_hash(bytes: &[u8], digest: &mut [u8]) -> u32
 }
 
 // A float's bits. Those of a NaN cannot be read, and the definitions have one pattern for it.
+// Beside the one of `replay`, which promises 0 for a NaN: the two patterns are two definitions.
 fn bits_of(x: f64) -> u64
     ensures { result ≡ to_bits binary64 x }
 {
-    if x != x {
+    if x.is_nan() {
         return 0x7ff8_0000_0000_0000;
     }
     f64::to_bits(x)
@@ -264,14 +265,12 @@ fn tally_in(bytes: &[u8]) -> Tally
 fn tally_bytes(tally: Tally) -> [u8; 12]
     ensures { result ≡ tally_bytes tally }
 {
-    let seen = octets::le_bytes32(tally.seen);
-    let passed = octets::le_bytes32(tally.passed);
-    let refused = octets::le_bytes32(tally.refused);
-    let mut bytes = [0u8; 12];
-    octets::copy_in(&mut bytes, 0, &seen);
-    octets::copy_in(&mut bytes, 4, &passed);
-    octets::copy_in(&mut bytes, 8, &refused);
-    bytes
+    let counts = [
+        octets::le_bytes32(tally.seen),
+        octets::le_bytes32(tally.passed),
+        octets::le_bytes32(tally.refused),
+    ];
+    octets::part(counts.as_flattened(), 0)
 }
 
 // Counts an answer, in the form that the other calls give it.
@@ -291,6 +290,7 @@ pub fn snaldrek_proved_tally(tally: &mut [u8], answer: u32) -> u32
 }
 
 // A row of the day list: the seal's number, and an answer's number and place. Its row is left out.
+// Copied in piece by piece: `as_flattened` joins only pieces of one length.
 fn day_row(seal: u32, answer: u32) -> [u8; 6]
     ensures { result ≡ day_row seal answer }
 {

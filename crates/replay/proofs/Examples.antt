@@ -10,7 +10,7 @@ use Rattle.ledger.specs.declared.Ledger.{Ledger}
 use Rattle.ledger.specs.Ledgers.{room_in, open_refusals}
 use Rattle.judge.specs.Judging.{answer_of}
 use Rattle.replay.specs.declared.State.{State}
-use Rattle.replay.specs.declared.Broken.{Broken}
+use Rattle.lines.specs.declared.Broken.{Broken}
 use Rattle.std.specs.Prelude.{None, Ok, Err}
 use Rattle.replay.specs.Tape.{broken_turn, plant_on, case_on, fresh_on, next_turn}
 

@@ -19,7 +19,7 @@ use Rattle.ledgerbytes.specs.LedgerBytes.{ledger_of}
 use Rattle.judge.specs.Judging.{answer_of, ledger_after_case, table_after_case}
 use Rattle.replay.specs.declared.State.{State}
 use Rattle.replay.specs.declared.Entry.{Entry}
-use Rattle.replay.specs.declared.Broken.{Broken}
+use Rattle.lines.specs.declared.Broken.{Broken}
 use Rattle.replay.specs.Looks.{ledger_text, rows_text, memory_text, seal_text}
 
 -- what an entry leaves, and what is printed of it

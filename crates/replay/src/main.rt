@@ -4,7 +4,7 @@
 // is, is left to `judge`, `desk`, `ledger` and `seal`.
 #![tactic(auto)]
 
-ghost use Rattle.std.specs.Prelude.{◌≡◌, ◌+◌, ◌*◌, ◌^◌, ◌<◌, ◌≤◌, min, false, ◌++◌, length, take, drop, IsOk};
+ghost use Rattle.std.specs.Prelude.{◌≡◌, ◌+◌, ◌*◌, ◌^◌, ◌<◌, ◌≤◌, min, false, ◌++◌, length, take, drop};
 ghost use Rattle.octets.specs.Parts.{zeros};
 ghost use Rattle.refusals.specs.Rules.{first, answer};
 ghost use Rattle.sha256.specs.Hash.{sha256_of};
@@ -20,6 +20,7 @@ ghost use Rattle.replay.specs.Looks.{ledger_text, row_line, row_lines, rows_text
 ghost use Rattle.replay.specs.Tape.{nothing as nothing_of, running_on, can_lend, open_turn, plant_length, plant_turn, row_laid, laid_by, can_lay, table_turn, roll_turn, lay_turn, case_turn, desk_line, desk_on, desk_turn, fresh_turn, block_turn, look_turn, bare_turn, seal_turn, name_turn, other_turn, entry_turn, next_turn, entry_length, longest, LentWithin, Plays};
 
 use ledger::{Answered, Ledger};
+use lines::Broken;
 use refusals::Answer;
 use seal::{Calibration, SealRefusal};
 use std::io;
@@ -32,7 +33,9 @@ type Sheet = Page<219136>;
 
 // What is kept from entry to entry: the ledger, how many bytes of each buffer are lent to it, and
 // whether the run goes on. The buffers are handed beside it: an entry that only looks is lent them for
-// reading, which the contract then need not promise, and no one struct could be lent so by halves.
+// reading, which the contract then need not promise, and no one struct could be lent so by halves. So each contract
+// that is handed them asks `LentWithin` anew.
+// A flag, since `nothing false` of specs/Tape.antt says of the ledger after the run too.
 #[derive(Clone, Copy)]
 pub struct State {
     pub on: bool,
@@ -42,15 +45,12 @@ pub struct State {
 }
 
 // An entry of the tape: its kind, and its body's length.
+// The kind stays the tape's byte: `entry_turn` is over it, and a byte of no kind breaks the tape off.
 #[derive(Clone, Copy)]
 pub struct Entry {
     pub kind: u8,
     pub length: usize,
 }
-
-// What is no entry.
-#[derive(Clone, Copy)]
-pub struct Broken;
 
 // A ledger with nothing in it, not even an anchor, on buffers of no length.
 fn nothing(on: bool) -> State
@@ -86,7 +86,7 @@ fn opened(table: &mut [u8], roll: &mut [u8]) -> Answered
 fn bits_of(pull: f64) -> u64
     ensures { result ≡ pull_bits pull }
 {
-    if pull != pull {
+    if pull.is_nan() {
         return 0;
     }
     f64::to_bits(pull)
@@ -136,9 +136,8 @@ fn put_rows(page: &mut Sheet, word: &[u8], n: usize, bytes: &[u8])
     requires { n * 32 ≤ length bytes.now }
     ensures { Wrote ((length word.now + 65) * n) (row_lines word.now n bytes.now) page.old page.new }
 {
-    for i in 0..n {
-        let row = octets::part(bytes, i * 32);
-        put_row(page, word, &row);
+    for row in bytes[..n * 32].as_chunks::<32>().0 {
+        put_row(page, word, row);
     }
 }
 
@@ -204,6 +203,7 @@ fn put_seal(page: &mut Sheet, body: &[u8])
 }
 
 // Whatever breaks the tape's layout ends the run.
+// 50 is this program's own and tray's: no library call answers it, so it has no name among refusals.
 fn break_off(page: &mut Sheet) -> State
     ensures state_value { result ≡ nothing_of false }
     ensures wrote { Wrote 47 (answer_line (ascii "tape") (answer 50 0)) page.old page.new }
@@ -293,7 +293,7 @@ fn lay_rows(bytes: &mut [u8], body: &[u8])
     let mut number = octets::le64(body, 8);
     for i in 0..rows {
         lay_row(&mut *bytes, (first + i) * 32, number, body);
-        number = std::num::wrapping_add_u64(number, step);
+        number = number.wrapping_add(step);
     }
 }
 
@@ -309,6 +309,7 @@ fn can_lay(body: &[u8], lent: usize) -> bool
     false
 }
 
+// This and `run_roll` are two, since each is lent for writing only the buffer that it fills.
 fn run_table(body: &[u8], table: &mut [u8], roll: &[u8], state: State, page: &mut Sheet) -> State
     requires { LentWithin state table.old roll.now }
     ensures { Plays (table_turn body.now table.old roll.now state) table.new roll.now page.old page.new result }
@@ -515,6 +516,7 @@ fn run_other(
     run_lay(kind, body, table, roll, state, page)
 }
 
+// A match over bytes, not a table of calls: each is lent other buffers for writing, so no one type fits.
 fn run(
     kind: u8,
     body: &[u8],
@@ -536,16 +538,6 @@ fn run(
     }
 }
 
-// Reads n bytes to the start of a buffer.
-fn read_whole(input: &mut impl io::Read, buffer: &mut [u8], n: usize) -> Result<(), Broken>
-    ensures { IsOk result → n ≤ length buffer.new }
-{
-    if buffer.len() < n || lines::read_full(input, &mut buffer[0..n]) < n {
-        return Err(Broken);
-    }
-    Ok(())
-}
-
 // Reads the next entry's body to the start of a buffer as long as the longest body. A read that fails
 // counts as the tape's end.
 fn read_next(input: &mut impl io::Read, buffer: &mut [u8]) -> Result<Option<Entry>, Broken>
@@ -560,7 +552,7 @@ fn read_next(input: &mut impl io::Read, buffer: &mut [u8]) -> Result<Option<Entr
         return Err(Broken);
     }
     let length = octets::le32(&head, 1) as usize;
-    read_whole(input, buffer, length)?;
+    lines::read_whole(input, buffer, length)?;
     Ok(Some(Entry {
         kind: head[0],
         length,

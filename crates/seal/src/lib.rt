@@ -6,7 +6,6 @@
 ghost use Rattle.std.specs.Prelude.{◌≡◌};
 ghost use Rattle.std.specs.Float.{binary64};
 ghost use Rattle.std.specs.Float.Ieee.{of_bits};
-ghost use Rattle.std.specs.Float.Ieee.Scale.{finite};
 ghost use Rattle.octets.specs.Parts.{field};
 ghost use Rattle.seal.specs.Pull.{pull_of, bad_limit, within, judge_of, answer_for, seal_answer};
 ghost use Rattle.seal.specs.Body.{float_of, unused_limit_set, is_broken, gate_of, read_of};
@@ -57,7 +56,7 @@ impl From<SealRefusal> for Answer {
     }
 }
 
-// A judged seal's answer.
+// A judged seal's answer. A call, not From: neither Result nor Answer is this crate's own.
 pub fn answer(sealed: Result<f64, SealRefusal>) -> Answer
     ensures { result ≡ seal_answer sealed }
 {
@@ -65,18 +64,6 @@ pub fn answer(sealed: Result<f64, SealRefusal>) -> Answer
         Ok(_) => Answer::accepted(),
         Err(refusal) => Answer::from(refusal),
     }
-}
-
-// Whether x is neither infinite nor a NaN, by its bits: the exponent is not all ones. A NaN's bits
-// cannot be read, but it alone differs from itself.
-fn is_finite(x: f64) -> bool
-    ensures { result ≡ finite x }
-{
-    if x != x {
-        return false;
-    }
-    let bits = f64::to_bits(x);
-    bits % 0x8000_0000_0000_0000 / 0x10_0000_0000_0000 != 2047
 }
 
 // Rounded once after the product and once after the sum.
@@ -91,12 +78,12 @@ fn has_bad_limit(g: Gate) -> bool
 {
     match g {
         Gate::None => false,
-        Gate::AtLeast(low) => !is_finite(low),
+        Gate::AtLeast(low) => !low.is_finite(),
         Gate::Between(low, high) => {
-            if !is_finite(low) {
+            if !low.is_finite() {
                 return true;
             }
-            if !is_finite(high) {
+            if !high.is_finite() {
                 return true;
             }
             high < low
@@ -121,6 +108,7 @@ fn is_within(g: Gate, p: f64) -> bool
 }
 
 // The refusals in their order: the first that applies is the answer.
+// Gate and reading stay two arguments: `judge_of` of specs/Pull.antt is over the two.
 pub fn judge(c: Calibration, g: Gate, raw: f64) -> Result<f64, SealRefusal>
     ensures { result ≡ judge_of c g raw }
 {
@@ -128,7 +116,7 @@ pub fn judge(c: Calibration, g: Gate, raw: f64) -> Result<f64, SealRefusal>
         return Err(SealRefusal::BadLimit);
     }
     let p = pull(raw, c);
-    if !is_finite(p) {
+    if !p.is_finite() {
         return Err(SealRefusal::NotFinite);
     }
     if !is_within(g, p) {
@@ -143,7 +131,7 @@ fn float_of(bits: u64) -> f64
     ensures { result ≡ of_bits binary64 bits }
 {
     if 0x7ff0_0000_0000_0000 < bits % 0x8000_0000_0000_0000 {
-        return 0.0 / 0.0;
+        return f64::NAN;
     }
     f64::from_bits(bits)
 }

@@ -11,7 +11,7 @@ use Rattle.text.specs.Decimal.{decimal, decimal_within}
 use Rattle.text.specs.Answers.{answer_words, answer_line}
 use Rattle.scanning.specs.FreshLedger.{fresh_scan}
 use Rattle.scanning.specs.Lines.{lines_of}
-use Rattle.tray.specs.declared.Broken.{Broken}
+use Rattle.lines.specs.declared.Broken.{Broken}
 use Rattle.tray.specs.declared.Item.TheVariants.{Bag, Name}
 use Rattle.tray.specs.Tray.{lines_for}
 

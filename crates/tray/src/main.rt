@@ -5,13 +5,14 @@
 // there are edges to show.
 #![tactic(auto)]
 
-ghost use Rattle.std.specs.Prelude.{◌≡◌, ◌≤◌, length, IsOk};
+ghost use Rattle.std.specs.Prelude.{◌≡◌, ◌≤◌, length};
 ghost use Rattle.refusals.specs.Rules.{answer};
 ghost use Rattle.text.specs.Words.{ascii, name_line};
 ghost use Rattle.text.specs.Answers.{answer_line};
 ghost use Rattle.text.specs.Pen.{Holds};
 ghost use Rattle.tray.specs.Tray.{Whole, more_may_follow, lines_for};
 
+use lines::Broken;
 use refusals::Answer;
 use std::io::Read;
 use text::Page;
@@ -21,20 +22,6 @@ use text::Page;
 pub enum Item {
     Bag(usize),
     Name(usize),
-}
-
-// What is neither a whole bag nor a whole name.
-#[derive(Clone, Copy)]
-pub struct Broken;
-
-// Reads n bytes to the start of a buffer.
-fn read_whole(input: &mut impl Read, buffer: &mut [u8], n: usize) -> Result<(), Broken>
-    ensures { IsOk result → n ≤ length buffer.new }
-{
-    if buffer.len() < n || lines::read_full(input, &mut buffer[0..n]) < n {
-        return Err(Broken);
-    }
-    Ok(())
 }
 
 // Reads what comes next to the start of a buffer as long as the longest bag: a bag, a name of at most 100 bytes, or
@@ -52,14 +39,14 @@ fn read_next(input: &mut impl Read, buffer: &mut [u8]) -> Result<Option<Item>, B
     }
     let n = octets::le32(&head, 0) as usize;
     if n < 2147483648 {
-        read_whole(input, buffer, n)?;
+        lines::read_whole(input, buffer, n)?;
         return Ok(Some(Item::Bag(n)));
     }
     let name = n - 2147483648;
     if 100 < name {
         return Err(Broken);
     }
-    read_whole(input, buffer, name)?;
+    lines::read_whole(input, buffer, name)?;
     Ok(Some(Item::Name(name)))
 }
 
@@ -80,6 +67,7 @@ fn name_page(name: &[u8]) -> Page<640>
 }
 
 // The refusal of what is neither a whole bag nor a whole name.
+// 50 is this program's own and replay's: no library call answers it, so it has no name among refusals.
 fn broken_page() -> Page<640>
     ensures { Holds 640 (answer_line (ascii "tray") (answer 50 0)) result }
 {

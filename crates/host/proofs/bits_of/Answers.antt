@@ -1,13 +1,8 @@
-use mathlib.Core.Path.{sym, ap, subst}
-use lib.Dec.{T}
+use mathlib.Core.Path.{sym, ap, ◌∙◌}
 use lib.Ieee.{binary64, to_bits}
-use lib.Ieee.Compare.{differs_from_itself}
-use Rattle.seal.proofs.Bits.{same_no_nan}
+use Rattle.seal.proofs.Bits.{is_nan_lem}
 use Rattle.host.proofs.bits_of.Goals as goal
 
-pub returns-then-x : goal.returns-then-x
+pub returns-then-is_nan : goal.returns-then-is_nan
 unfolding to_bits
-returns-then-x c = sym (ap (to_bits binary64) (differs_from_itself c.args.x (subst T (sym c.if-x.true) tt)))
-
-pub float_to_bits-result : goal.float_to_bits-result
-float_to_bits-result c = same_no_nan c.args.x c.if-x.false
+returns-then-is_nan c = sym (ap (to_bits binary64) (is_nan_lem c.args.x (sym c.is_nan.ensures.value ∙ c.if-is_nan.true)))

@@ -31,7 +31,7 @@ loop-i-preserved c =
       c.lay_row.auto.bytes ∙ c.loop-i.invariant.1,
       c.loop-i.invariant.2
           ∙ rows_turn (c.le32-rows.result - i) (c.le32-rows.result - (i + 1)) ((c.le32-first.result + i) * 32) ((c.le32-first.result + (i + 1)) * 32) c.loop-i.number
-          c.wrapping_add_u64-number.result c.le64-step.result _ c.loop-i.bytes c.lay_row.new.bytes (omega arith) (omega arith) c.wrapping_add_u64-number.ensures.value c.lay_row.ensures,
+          _ c.le64-step.result _ c.loop-i.bytes c.lay_row.new.bytes (omega arith) (omega arith) refl c.lay_row.ensures,
     )
 
 pub returns : goal.returns

@@ -2,8 +2,6 @@
 // is refused as spent a line with the row in which its nullifier stands. That is what `./snaldrek judge --explain`
 // reads. Which bytes those lines are is the contract of `scanning::scan_lines`; that these bytes are read and
 // those are written cannot be said in a contract, so the stored run holds it.
-// Beside `scanner` it differs in one argument. It stays a program of its own: a run shows by its name which lines it
-// prints, and the four programs that judge and write stand in one form.
 #![tactic(auto)]
 
 // A byte more than a bag may have: what fills it is too long, however it goes on. A program beside `scanner`, not

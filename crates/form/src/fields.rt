@@ -123,10 +123,7 @@ pub fn put_name<const N: usize>(page: &mut Page<N>, k: usize)
 fn is_proof(digits: &[u8]) -> bool
     ensures { result ≡ accepts_of Proof digits.now }
 {
-    if is_hex(digits, 592) {
-        return true;
-    }
-    is_hex(digits, 384)
+    is_hex(digits, 592) || is_hex(digits, 384)
 }
 
 // Whether the digits are a value of that kind.

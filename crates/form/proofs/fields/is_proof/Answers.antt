@@ -1,11 +1,11 @@
-use mathlib.Core.Path.{sym, ◌∙◌}
+use mathlib.Core.Path.{refl, sym, ◌∙◌}
 use Rattle.form.specs.Fields.{accepts}
 use Rattle.form.proofs.fields.is_proof.Goals as goal
 
 pub returns-then-is_hex : goal.returns-then-is_hex
 unfolding accepts
-returns-then-is_hex c = rw (sym c.is_hex.ensures ∙ c.if-is_hex.true)
+returns-then-is_hex c = rw (c.if-is_hex.true, sym c.is_hex.ensures ∙ c.if-is_hex.true) refl
 
-pub returns : goal.returns
+pub returns-else-is_hex : goal.returns-else-is_hex
 unfolding accepts
-returns c = rw (sym c.is_hex.ensures ∙ c.if-is_hex.false) c.is_hex-2.ensures
+returns-else-is_hex c = rw (sym c.is_hex.ensures ∙ c.if-is_hex.false) c.is_hex-else-is_hex.ensures

@@ -1,6 +1,6 @@
 // The C functions by which a host judges a case in steps, reached by way of entry/calls.c. They stand apart from
-// `host`, and so in an object file of their own: the compiler makes the judge's code as if there were no steps beside
-// it.
+// `host`, and so in an object file of their own: the compiler makes the judge's code as if there were no steps
+// beside it.
 #![tactic(auto)]
 
 ghost use Rattle.std.specs.Prelude.{◌≡◌};

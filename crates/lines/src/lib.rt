@@ -42,7 +42,7 @@ pub fn read_full<R: Read>(input: &mut R, buffer: &mut [u8]) -> usize
 #[derive(Clone, Copy)]
 pub struct Broken;
 
-// Reads n bytes to the start of a buffer, as `read_full` does, and refuses where the buffer is shorter or fewer come.
+// Reads n bytes to the start of a buffer, as `read_full` does. Refuses where the buffer is shorter or fewer come.
 pub fn read_whole<R: Read>(input: &mut R, buffer: &mut [u8], n: usize) -> Result<(), Broken>
     ensures in_bounds { IsOk result → n ≤ length buffer.new }
     ensures bytes { IsOk result → Consumes (R.remaining input.old) (R.remaining input.new) (take n buffer.new) }

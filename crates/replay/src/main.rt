@@ -33,8 +33,8 @@ type Sheet = Page<219136>;
 
 // What is kept from entry to entry: the ledger, how many bytes of each buffer are lent to it, and
 // whether the run goes on. The buffers are handed beside it: an entry that only looks is lent them for
-// reading, which the contract then need not promise, and no one struct could be lent so by halves. So each contract
-// that is handed them asks `LentWithin` anew.
+// reading, which the contract then need not promise, and no one struct could be lent so by halves. So each
+// contract over them asks `LentWithin` anew.
 // A flag, since `nothing false` of specs/Tape.antt says of the ledger after the run too.
 #[derive(Clone, Copy)]
 pub struct State {

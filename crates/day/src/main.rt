@@ -119,6 +119,7 @@ fn put_list(page: &mut Sheet, rows: &[DayRow; 4])
     }
 }
 
+// Written out, as the row of zeros below, not by Default: this is `empty` of books/specs/History.antt by name.
 fn empty() -> Tally
     ensures { result ≡ empty_tally }
 {

@@ -71,10 +71,7 @@ fn all_hex(digits: &[u8]) -> bool
 pub fn is_hex(digits: &[u8], n: usize) -> bool
     ensures { result ≡ is_hex n digits.now }
 {
-    if digits.len() != n {
-        return false;
-    }
-    all_hex(digits)
+    digits.len() == n && all_hex(digits)
 }
 
 // The byte that two hexadecimal digits say.

@@ -84,7 +84,3 @@ unfolding settled_answer
 ready_settled own c t r l h =
     let both = lower_accepts (own_counted own c) (first (ledgers_own c t r l)) h in
     taken_in c t r l both.1 (counted_two own c both.0)
-
--- the same of values that were read
-pub as_read : (t : List ℕ) (l : Ledger) {a a' b b' : List ℕ} {x x' y y' : ℕ} → a ≡ a' → b ≡ b' → x ≡ x' → y ≡ y' → Ready t l a' b' x' y' → Ready t l a b x y
-as_read t l p q u v h = rw (p, q, u, v) h

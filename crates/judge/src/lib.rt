@@ -26,12 +26,13 @@ ghost use Rattle.judge.specs.Settling.{own_counted, settled_answer, ledger_after
 ghost use Rattle.judge.specs.Kept.{kept_after};
 
 use asking::{room_in, sound};
+use entering::enter;
 use ledger::{Answered, Ledger, MOST_ANCHORS};
 use ledgerbytes::Counts;
 use refusals::{Answer, Refusal};
 use rows::start_of;
 use tree::Tree;
-use units::{Amount, Row, Which};
+use units::{Amount, Row};
 
 // A ledger with no nullifier and no leaf, and so many anchors.
 fn start(anchors: usize) -> Ledger
@@ -123,30 +124,6 @@ pub fn close_kept(table: &[u8], roll: &mut [u8], kept: &mut [u8]) -> Result<(), 
     Ok(())
 }
 
-// Enters an accepted case.
-fn entered(case: &[u8], table: &mut [u8], ledger: Ledger) -> Ledger
-    requires { Ready table.old ledger (nullifier_of 1 case.now) (nullifier_of 2 case.now) (vpub_old_of case.now) (vpub_new_of case.now) }
-    ensures value { result ≡ entered_of ledger (commitment_of 1 case.now) (commitment_of 2 case.now) (vpub_old_of case.now) (vpub_new_of case.now) }
-    ensures table_after { table.new ≡ entered_rows ledger.nullifiers table.old (nullifier_of 1 case.now) (nullifier_of 2 case.now) }
-{
-    let one = casefile::nullifier(case, Which::First);
-    let two = casefile::nullifier(case, Which::Second);
-    let commitment1 = casefile::commitment(case, Which::First);
-    let commitment2 = casefile::commitment(case, Which::Second);
-    let old = casefile::vpub_old(case);
-    let new = casefile::vpub_new(case);
-    entering::enter(
-        table,
-        ledger,
-        &one,
-        &two,
-        commitment1,
-        commitment2,
-        old,
-        new,
-    )
-}
-
 // The answer to a case: what its public part and the ledger say, then its witness, and last whether the pool
 // stays in its bounds. The length is asked first of all, so that all the rest is compiled for a case of that
 // length.
@@ -172,7 +149,7 @@ pub fn judge(case: &[u8], table: &mut [u8], roll: &[u8], ledger: Ledger) -> Answ
             ledger,
         };
     }
-    let after = entered(case, table, ledger);
+    let after = enter(case, table, ledger);
     Answered {
         answer: Answer::accepted(),
         ledger: after,
@@ -186,7 +163,7 @@ fn enter_kept(case: &[u8], table: &mut [u8], kept: &mut [u8])
     ensures kept_after { kept.new ≡ buffer_after_write (entered_of (ledger_of kept.old) (commitment_of 1 case.now) (commitment_of 2 case.now) (vpub_old_of case.now) (vpub_new_of case.now)) kept.old }
 {
     let before = ledgerbytes::read(&*kept);
-    let after = entered(case, table, before);
+    let after = enter(case, table, before);
     ledgerbytes::write(kept, after);
 }
 

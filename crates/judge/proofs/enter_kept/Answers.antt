@@ -6,18 +6,18 @@ use Rattle.ledger.specs.Ledgers.{entered_of}
 use Rattle.ledgerbytes.specs.LedgerBytes.{buffer_after_write}
 use Rattle.judge.proofs.enter_kept.Goals as goal
 
-pub entered-after-requires : goal.entered-after-requires
-entered-after-requires c = rw c.read-before.ensures c.requires
+pub enter-after-requires : goal.enter-after-requires
+enter-after-requires c = rw c.read-before.ensures c.requires
 
 pub returns : goal.returns
 returns c =
     let a = c.args in
     let case = a.case.now in
     record {
-      table_after = c.entered-after.ensures.table_after
+      table_after = c.enter-after.ensures.table_after
           ∙ ap (λ (x : Ledger). table_with_two x.nullifiers a.table.now (nullifier_of 1 case) (nullifier_of 2 case)) c.read-before.ensures;
       kept_after = c.write.ensures.bytes_after
           ∙ ap (λ (x : Ledger). buffer_after_write x a.kept.now)
-          (c.entered-after.ensures.value
+          (c.enter-after.ensures.value
           ∙ ap (λ (x : Ledger). entered_of x (commitment_of 1 case) (commitment_of 2 case) (vpub_old_of case) (vpub_new_of case)) c.read-before.ensures);
     }

@@ -18,8 +18,8 @@ returns-in-Err c =
       table_after = sym (refused_table a.case.now a.table.now a.roll.now a.ledger no);
     }
 
-pub entered-after-requires : goal.entered-after-requires
-entered-after-requires c =
+pub enter-after-requires : goal.enter-after-requires
+enter-after-requires c =
     let a = c.args in
     let d = c.in_default.ensures ∙ answered_bare a.table.now a.roll.now a.ledger _ c.from.ensures a.case.now in
     ready a.case.now a.table.now a.roll.now a.ledger (eqb-true _ 0 (ap is_accepted (sym d)))
@@ -30,6 +30,6 @@ returns c =
     let d = c.in_default.ensures ∙ answered_bare a.table.now a.roll.now a.ledger _ c.from.ensures a.case.now in
     let accepts = ap is_accepted (sym d) in
     record {
-      value = judged a.case.now a.table.now a.roll.now a.ledger _ _ (c.accepted.ensures ∙ d) (c.entered-after.ensures.value ∙ sym (accepted_ledger a.case.now a.table.now a.roll.now a.ledger accepts));
-      table_after = c.entered-after.ensures.table_after ∙ sym (accepted_table a.case.now a.table.now a.roll.now a.ledger accepts);
+      value = judged a.case.now a.table.now a.roll.now a.ledger _ _ (c.accepted.ensures ∙ d) (c.enter-after.ensures.value ∙ sym (accepted_ledger a.case.now a.table.now a.roll.now a.ledger accepts));
+      table_after = c.enter-after.ensures.table_after ∙ sym (accepted_table a.case.now a.table.now a.roll.now a.ledger accepts);
     }

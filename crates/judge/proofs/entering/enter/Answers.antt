@@ -1,3 +1,4 @@
+-- The six fields that are read are those that the promise names; with them the table is that with both rows, the tree that with both leaves, and the pool the one after the case.
 use mathlib.Core.List.{List}
 use mathlib.Core.Path.{ap, ap₂, ◌∙◌}
 use Prim.Native.Nat.{ℕ, ◌+◌, ◌≤◌}

@@ -6,14 +6,14 @@ ghost use Rattle.octets.specs.Rows.{rows_of};
 ghost use Rattle.ledger.specs.Sorted.{place_of, is_gap, rising, find};
 ghost use Rattle.ledger.specs.Rows.{byte_order, shifted, with_row, table_with_two, Fresh};
 
-use crate::order::{compare, word};
+use crate::order::{compare, first_word};
 use crate::rows::{rows_in, start_of};
 use std::cmp::Ordering;
 use units::Row;
 
-// The rows from one on up to which they rise by their first words alone: eight rows a turn, each of them loaded once
-// and compared with the one before, and no call. Where first words are equal or fall, and at the last rows, it stops.
-// One row a turn takes 9 instructions a row, and this 4.5. For `is_rising` alone.
+// The rows from one on up to which they rise by their first words alone: eight rows a turn, each of them loaded
+// once and compared with the one before, and no call. Where first words are equal or fall, and at the last rows,
+// it stops. One row a turn takes 9 instructions a row, and this 4.5. For `is_rising` alone.
 fn rises_to(rows: &[[u8; 32]]) -> &[[u8; 32]]
     requires { 0 < length rows.now }
     ensures some_left { 0 < length result.now }
@@ -21,16 +21,16 @@ fn rises_to(rows: &[[u8; 32]]) -> &[[u8; 32]]
     ensures rises { rising byte_order result.now ≡ rising byte_order rows.now }
 {
     let mut rest = rows;
-    let mut before = word(&rows[0], 0);
+    let mut before = first_word(&rows[0]);
     while rest.len() > 8 {
-        let one = word(&rest[1], 0);
-        let two = word(&rest[2], 0);
-        let three = word(&rest[3], 0);
-        let four = word(&rest[4], 0);
-        let five = word(&rest[5], 0);
-        let six = word(&rest[6], 0);
-        let seven = word(&rest[7], 0);
-        let eight = word(&rest[8], 0);
+        let one = first_word(&rest[1]);
+        let two = first_word(&rest[2]);
+        let three = first_word(&rest[3]);
+        let four = first_word(&rest[4]);
+        let five = first_word(&rest[5]);
+        let six = first_word(&rest[6]);
+        let seven = first_word(&rest[7]);
+        let eight = first_word(&rest[8]);
         if before >= one
             || one >= two
             || two >= three
@@ -105,9 +105,9 @@ fn shift_four(table: &mut [u8], at: usize)
     table[at..at + 160].copy_within(0..128, 32);
 }
 
-// The bytes from index low up to index high moved up by one row, eight rows a turn, as far down as whole turns lead;
-// answers that far. Downwards, so that none is overwritten before it is moved. One copy of all takes 7 instructions a
-// row, and in some forms a call of `memmove`, which a host need not have; this takes 4.6.
+// The bytes from index low up to index high moved up by one row, eight rows a turn, as far down as whole turns
+// lead; answers that far. Downwards, so that none is overwritten before it is moved. One copy of all takes 7
+// instructions a row, and in some forms a call of `memmove`, which a host need not have; this takes 4.6.
 fn shift_eights(table: &mut [u8], low: usize, high: usize) -> usize
     requires in_order { low ≤ high }
     requires room { high + 32 ≤ length table.old }

@@ -137,8 +137,8 @@ pub fn stays_within(counts: Counts, case: &[u8]) -> Result<(), Refusal>
     }
 }
 
-// What the ledger and the case's public part say, in the order of the numbers. For this crate alone, which has asked
-// for the length.
+// What the ledger and the case's public part say, in the order of the numbers. For this crate alone, which has
+// asked for the length.
 pub fn ask(table: &[u8], roll: &[u8], counts: Counts, case: &[u8]) -> Result<(), Refusal>
     requires { has_length case.now ≡ true }
     ensures { as_answer result ≡ first (rules_in (front_refusals case.now table.now roll.now (bare counts))) }
@@ -162,8 +162,8 @@ fn unless(own: Answer, number: u8) -> Result<(), Answer>
     }
 }
 
-// What is lower than an answer in hand, or that answer itself where it counts before the others. A judgement's record
-// may hold any number, place and row as that answer, so that it is none of the refusals by name.
+// What is lower than an answer in hand, or that answer itself where it counts before the others. A judgement's
+// record may hold any number, place and row as that answer, so that it is none of the refusals by name.
 fn lower_than(
     own: Answer,
     table: &[u8],

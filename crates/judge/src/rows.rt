@@ -13,7 +13,10 @@ pub fn start_of(row: Row) -> usize
     row.index() * 32
 }
 
-// The first count rows of lent bytes. For this crate alone, which asks for rows that are there.
+// The first count rows of lent bytes. For this crate alone, which asks for rows that are there. That they are
+// there is asked of each caller and kept in no struct, which would be no plainer: a host lends table and roll
+// apart, with one `Counts` for both, and entering writes the table while its count grows, so that bytes and
+// count would be put together, and the fact proved, once more at each of these places.
 pub fn rows_in(bytes: &[u8], count: usize) -> &[[u8; 32]]
     requires { count * 32 ≤ length bytes.now }
     ensures rows { result.now ≡ rows_of count bytes.now }

@@ -18,6 +18,7 @@ use std::io::Read;
 use text::Page;
 
 // What stands on the tray, and its length: a bag or a name.
+// The bytes stay in the buffer: `lines_for` of specs/Tray.antt is over the length and the whole buffer.
 #[derive(Clone, Copy)]
 pub enum Item {
     Bag(usize),

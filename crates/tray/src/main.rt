@@ -25,8 +25,8 @@ pub enum Item {
     Name(usize),
 }
 
-// Reads what comes next to the start of a buffer as long as the longest bag: a bag, a name of at most 100 bytes, or
-// nothing at the tray's end. A read that fails counts as the tray's end.
+// Reads what comes next to the start of a buffer as long as the longest bag: a bag, a name of at most 100 bytes,
+// or nothing at the tray's end. A read that fails counts as the tray's end.
 fn read_next(input: &mut impl Read, buffer: &mut [u8]) -> Result<Option<Item>, Broken>
     ensures { Whole result buffer.new }
 {

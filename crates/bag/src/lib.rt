@@ -17,8 +17,8 @@ pub const MOST_BYTES: usize = 65536;
 
 const MOST_ROWS: usize = 8;
 
-// A row of the table of contents: what its body is, where it starts, how long it is. The kind stays a byte: it is only
-// compared with the one that its row must have, and an enum would need a reading that can fail.
+// A row of the table of contents: what its body is, where it starts, how long it is. The kind stays a byte: it is
+// only compared with the one that its row must have, and an enum would need a reading that can fail.
 #[derive(Clone, Copy)]
 struct Entry {
     kind: u8,

@@ -77,8 +77,8 @@ pub struct DayRow {
     pub place: u8,
 }
 
-// Rewrites one row of the day list, and answers whether there is such a row, which is all that an error would say; if
-// not, the list stays.
+// Rewrites one row of the day list, and answers whether there is such a row, which is all that an error would say;
+// if not, the list stays.
 pub fn enter(list: &mut [DayRow], at: Row, row: DayRow) -> bool
     ensures { (result ≡ is_on at.0 list.old) × (list.new ≡ with_day_row at.0 row list.old) }
 {

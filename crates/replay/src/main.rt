@@ -45,6 +45,7 @@ pub struct State {
 }
 
 // An entry of the tape: its kind, and its body's length.
+// The bytes stay in the buffer: `next_turn` of specs/Tape.antt is over the length and the whole buffer.
 // The kind stays the tape's byte: `entry_turn` is over it, and a byte of no kind breaks the tape off.
 #[derive(Clone, Copy)]
 pub struct Entry {

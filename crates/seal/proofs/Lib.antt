@@ -1,4 +1,5 @@
 pub mod Bits
+mod GateLaws
 mod Marked
 pub mod PullLaws
 mod Zeros

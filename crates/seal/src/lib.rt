@@ -3,12 +3,13 @@
 // Where the seal lies in a bag and which calibration a scanner has are left to the crates above.
 #![tactic(auto)]
 
-ghost use Rattle.std.specs.Prelude.{◌≡◌};
+ghost use Rattle.std.specs.Prelude.{◌≡◌, cond, Ok, Err};
 ghost use Rattle.std.specs.Float.{binary64};
 ghost use Rattle.std.specs.Float.Ieee.{of_bits};
 ghost use Rattle.octets.specs.Parts.{field};
 ghost use Rattle.seal.specs.Pull.{pull_of, bad_limit, within, judge_of, answer_for, seal_answer};
-ghost use Rattle.seal.specs.Body.{float_of, unused_limit_set, is_broken, gate_of, read_of};
+ghost use Rattle.seal.specs.declared.SealRefusal.TheVariants.{Broken};
+ghost use Rattle.seal.specs.Body.{float_of, is_zero, is_broken, gate_of, read_of};
 
 use refusals::Answer;
 
@@ -143,56 +144,34 @@ pub fn float_at(bytes: &[u8], at: usize) -> f64
     float_of(octets::le64(bytes, at))
 }
 
-// Whether the limit at index at is not zero bytes though the gate does not use it. Low is used from
-// kind 1 on, high from kind 2 on.
-fn is_unused_limit_set(bytes: &[u8], at: usize, kind: u8, from: u8) -> bool
-    ensures { result ≡ unused_limit_set kind from (field at 8 bytes.now) }
+fn is_zero_at(bytes: &[u8], at: usize) -> bool
+    ensures { result ≡ is_zero (field at 8 bytes.now) }
 {
-    if from <= kind {
-        return false;
-    }
-    octets::le64(bytes, at) != 0
+    octets::le64(bytes, at) == 0
 }
 
-fn is_broken(bytes: &[u8]) -> bool
-    ensures { result ≡ is_broken bytes.now }
+// The gate by its kind. A limit that the kind does not use is zero bytes.
+fn read_gate(bytes: &[u8]) -> Result<Gate, SealRefusal>
+    ensures { result ≡ cond (is_broken bytes.now) (Err Broken) (Ok (gate_of bytes.now)) }
 {
     if bytes.len() != 25 {
-        return true;
+        return Err(SealRefusal::Broken);
     }
-    let kind = bytes[0];
-    if 2 < kind {
-        return true;
+    match bytes[0] {
+        0 if is_zero_at(bytes, 1) && is_zero_at(bytes, 9) => Ok(Gate::None),
+        1 if is_zero_at(bytes, 9) => Ok(Gate::AtLeast(float_at(bytes, 1))),
+        2 => Ok(Gate::Between(float_at(bytes, 1), float_at(bytes, 9))),
+        _ => Err(SealRefusal::Broken),
     }
-    if is_unused_limit_set(bytes, 1, kind, 1) {
-        return true;
-    }
-    is_unused_limit_set(bytes, 9, kind, 2)
-}
-
-// The kind is known: a broken body is refused before.
-fn gate_of(bytes: &[u8]) -> Gate
-    ensures { result ≡ gate_of bytes.now }
-{
-    let kind = octets::byte_from(bytes, 0, 0);
-    if kind == 0 {
-        return Gate::None;
-    }
-    if kind == 1 {
-        return Gate::AtLeast(float_at(bytes, 1));
-    }
-    Gate::Between(float_at(bytes, 1), float_at(bytes, 9))
 }
 
 // What any slice says as a seal's body.
 pub fn read_body(bytes: &[u8]) -> Result<Reading, SealRefusal>
     ensures { result ≡ read_of bytes.now }
 {
-    if is_broken(bytes) {
-        return Err(SealRefusal::Broken);
-    }
+    let gate = read_gate(bytes)?;
     Ok(Reading {
-        gate: gate_of(bytes),
+        gate,
         raw: float_at(bytes, 17),
     })
 }

@@ -18,14 +18,15 @@ use std::io::Read;
 use text::Page;
 
 // What stands on the tray, and its length: a bag or a name.
+// The bytes stay in the buffer: `lines_for` of specs/Tray.antt is over the length and the whole buffer.
 #[derive(Clone, Copy)]
 pub enum Item {
     Bag(usize),
     Name(usize),
 }
 
-// Reads what comes next to the start of a buffer as long as the longest bag: a bag, a name of at most 100 bytes, or
-// nothing at the tray's end. A read that fails counts as the tray's end.
+// Reads what comes next to the start of a buffer as long as the longest bag: a bag, a name of at most 100 bytes,
+// or nothing at the tray's end. A read that fails counts as the tray's end.
 fn read_next(input: &mut impl Read, buffer: &mut [u8]) -> Result<Option<Item>, Broken>
     ensures { Whole result buffer.new }
 {

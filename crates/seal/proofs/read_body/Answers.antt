@@ -1,11 +1,11 @@
-use mathlib.Core.Path.{sym, ◌∙◌}
 use Rattle.seal.specs.Body.{read_of}
+use Rattle.seal.proofs.GateLaws.{gate_read, gate_refused}
 use Rattle.seal.proofs.read_body.Goals as goal
 
-pub returns-then-is_broken : goal.returns-then-is_broken
+pub returns-in_err-gate : goal.returns-in_err-gate
 unfolding read_of
-returns-then-is_broken c = simp (sym c.is_broken.ensures ∙ c.if-is_broken.true)
+returns-in_err-gate c = gate_refused _ _ _ _ _ (c.in_err-gate.ensures) c.from_residual.ensures
 
 pub returns : goal.returns
 unfolding read_of
-returns c = simp (sym c.is_broken.ensures ∙ c.if-is_broken.false, c.gate_of.ensures, c.float_at.ensures)
+returns c = simp c.float_at.ensures (gate_read _ _ _ _ (c.in_ok-gate.ensures))

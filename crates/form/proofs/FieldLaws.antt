@@ -1,9 +1,9 @@
 -- The table of fields, entry by entry, by tests that antt computes over all of it; and what the kinds of values are.
 -- Assumes nothing.
-use Prim.Native.Nat.{ℕ, zero, suc, ◌+◌, ◌-◌, ◌*◌, ◌/◌, ◌%◌, ◌≤◌, ◌<◌}
+use Prim.Native.Nat.{ℕ, zero, suc, ◌+◌, ◌-◌, ◌/◌, ◌%◌, ◌≤◌, ◌<◌}
 use mathlib.Core.Path.{◌≡◌, refl, ap, ◌∙◌}
 use mathlib.Core.Bool.{Bool, true, false, ◌&&◌, ◌||◌}
-use mathlib.Core.List.{List, [], ◌∷◌, map}
+use mathlib.Core.List.{List, [], ◌∷◌, ◌++◌, map}
 use mathlib.Core.Logic.{⊎_elim}
 use native.Mathlib.Nat.{eq-or-lt_of_le, le_of_suc-le-suc, sub-zero}
 use native.Mathlib.Numerals.{add-one}
@@ -12,12 +12,12 @@ use lib.Dec.{eqb, leb, ltb}
 use lib.ListN.{length, get_or, take}
 use lib.Seq.{take_at}
 use borrow.Author.Tests.{leb-true, ltb-true, eqb-true, lt-ltb, le-ltb}
-use Rattle.octets.specs.Parts.{field as part, listed, same, zeros}
+use Rattle.octets.specs.Parts.{same, zeros}
 use Rattle.octets.specs.Numbers.{little_bytes}
 use Rattle.octets.proofs.BoolLaws.{and_both}
 use Rattle.octets.proofs.PartLaws.{same_eq, zeros_length, zeros_append}
 use Rattle.text.specs.Words.{ascii}
-use Rattle.form.specs.declared.fields.Shape.{Shape}
+use Rattle.form.specs.declared.fields.Field.{Field as Entry}
 use Rattle.form.specs.declared.fields.Kind.TheVariants.{Hex}
 use Rattle.form.specs.Lines.{Blank, is_blank, stops_at, up_to, word_of, value_of}
 use Rattle.form.specs.Digits.{every, is_hex_digit, is_hex}
@@ -35,28 +35,24 @@ at f (suc n) e k h =
     let b = and_both (f n) (all_below f n) e in
     ⊎_elim (λ q. ap f q ∙ b.0) (λ l. at f n b.1 k l) (eq-or-lt_of_le (le_of_suc-le-suc h))
 
--- the shapes, which the code has as a table of its own
-unfoldable pub shape_of : Field → Shape
-shape_of f = record { 0 = f.gap; 1 = f.kind }
+-- a field as the code has it, with a name of 16 bytes
+unfoldable pub entry_of : Field → Entry
+entry_of f = record { 0 = take 16 (f.name ++ ascii "                "); 1 = f.gap; 2 = f.kind }
 
 mapped : {A B : Type 0} (f : A → B) (l : List A) (d : A) (e : B) (k : ℕ) → k < length l → get_or (map f l) k e ≡ f (get_or l k d)
 mapped f [] d e k h = absurd (omega arith)
 mapped f (x ∷ l) d e zero h = refl
 mapped f (x ∷ l) d e (suc k) h = mapped f l d e k (omega arith)
 
-pub shape_at : (e : Shape) (k : ℕ) → k < 28 → get_or (map shape_of fields) k e ≡ shape_of (field_at k)
+pub entry_at : (e : Entry) (k : ℕ) → k < 28 → get_or (map entry_of fields) k e ≡ entry_of (field_at k)
 unfolding field_at fields
-shape_at e k h = mapped shape_of fields (field [] 0 (Hex 0)) e k h
+entry_at e k h = mapped entry_of fields (field [] 0 (Hex 0)) e k h
 
--- the names, which the code has in cells
-unfoldable pub cells : List ℕ
-cells = ascii "vpub_old        vpub_new        anchor          ephemeral_key   seed            proof           ciphertext_1    ciphertext_2    transaction_key old_1_key       old_1_value     old_1_rho       old_1_r         old_1_position  old_1_path      old_2_key       old_2_value     old_2_rho       old_2_r         old_2_position  old_2_path      new_1_address   new_1_value     new_1_r         new_2_address   new_2_value     new_2_r         phi             "
-
-named : all_below (λ k. same (up_to Blank (part (16 * k) 32 cells)) (field_at k).name) 28 ≡ true
-unfolding all_below same up_to stops_at is_blank part listed cells field_at fields
+named : all_below (λ k. same (up_to Blank (entry_of (field_at k)).0) (field_at k).name) 28 ≡ true
+unfolding all_below same up_to stops_at is_blank entry_of field_at fields
 named = refl
 
-pub name_at : (k : ℕ) → k < 28 → up_to Blank (part (16 * k) 32 cells) ≡ (field_at k).name
+pub name_at : (k : ℕ) → k < 28 → up_to Blank (entry_of (field_at k)).0 ≡ (field_at k).name
 name_at k h = same_eq _ _ (at _ 28 named k h)
 
 -- how far the first k fields reach, in the edition whose proof has p bytes

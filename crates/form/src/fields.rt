@@ -23,9 +23,9 @@ pub enum Kind {
     Proof,
 }
 
-// How many bytes that are worked out lie before a field, and what its value is.
+// A field: its name with blanks behind it, how many bytes that are worked out lie before it, and what its value is.
 #[derive(Clone, Copy)]
-pub struct Shape(pub usize, pub Kind);
+pub struct Field([u8; 16], usize, Kind);
 
 pub const COUNT: usize = 28;
 
@@ -33,79 +33,60 @@ pub const MOST_AMOUNT: u64 = 18446744073709551615;
 
 pub const MOST_POSITION: u64 = 4294967295;
 
-// In the order of the names below.
-const SHAPES: [Shape; 28] = [
-    Shape(0, Kind::Amount),
-    Shape(0, Kind::Amount),
-    Shape(0, Kind::Hex(64)),
-    Shape(128, Kind::Hex(64)),
-    Shape(0, Kind::Hex(64)),
-    Shape(64, Kind::Proof),
-    Shape(0, Kind::Hex(1202)),
-    Shape(0, Kind::Hex(1202)),
-    Shape(0, Kind::Hex(64)),
-    Shape(0, Kind::Hex(64)),
-    Shape(32, Kind::Amount),
-    Shape(0, Kind::Hex(64)),
-    Shape(0, Kind::Hex(64)),
-    Shape(0, Kind::Position),
-    Shape(0, Kind::Hex(1856)),
-    Shape(0, Kind::Hex(64)),
-    Shape(32, Kind::Amount),
-    Shape(0, Kind::Hex(64)),
-    Shape(0, Kind::Hex(64)),
-    Shape(0, Kind::Position),
-    Shape(0, Kind::Hex(1856)),
-    Shape(0, Kind::Hex(64)),
-    Shape(0, Kind::Amount),
-    Shape(32, Kind::Hex(64)),
-    Shape(0, Kind::Hex(64)),
-    Shape(0, Kind::Amount),
-    Shape(32, Kind::Hex(64)),
-    Shape(0, Kind::Hex(64)),
+const FIELDS: [Field; 28] = [
+    Field(*b"vpub_old        ", 0, Kind::Amount),
+    Field(*b"vpub_new        ", 0, Kind::Amount),
+    Field(*b"anchor          ", 0, Kind::Hex(64)),
+    Field(*b"ephemeral_key   ", 128, Kind::Hex(64)),
+    Field(*b"seed            ", 0, Kind::Hex(64)),
+    Field(*b"proof           ", 64, Kind::Proof),
+    Field(*b"ciphertext_1    ", 0, Kind::Hex(1202)),
+    Field(*b"ciphertext_2    ", 0, Kind::Hex(1202)),
+    Field(*b"transaction_key ", 0, Kind::Hex(64)),
+    Field(*b"old_1_key       ", 0, Kind::Hex(64)),
+    Field(*b"old_1_value     ", 32, Kind::Amount),
+    Field(*b"old_1_rho       ", 0, Kind::Hex(64)),
+    Field(*b"old_1_r         ", 0, Kind::Hex(64)),
+    Field(*b"old_1_position  ", 0, Kind::Position),
+    Field(*b"old_1_path      ", 0, Kind::Hex(1856)),
+    Field(*b"old_2_key       ", 0, Kind::Hex(64)),
+    Field(*b"old_2_value     ", 32, Kind::Amount),
+    Field(*b"old_2_rho       ", 0, Kind::Hex(64)),
+    Field(*b"old_2_r         ", 0, Kind::Hex(64)),
+    Field(*b"old_2_position  ", 0, Kind::Position),
+    Field(*b"old_2_path      ", 0, Kind::Hex(1856)),
+    Field(*b"new_1_address   ", 0, Kind::Hex(64)),
+    Field(*b"new_1_value     ", 0, Kind::Amount),
+    Field(*b"new_1_r         ", 32, Kind::Hex(64)),
+    Field(*b"new_2_address   ", 0, Kind::Hex(64)),
+    Field(*b"new_2_value     ", 0, Kind::Amount),
+    Field(*b"new_2_r         ", 32, Kind::Hex(64)),
+    Field(*b"phi             ", 0, Kind::Hex(64)),
 ];
 
 // A field's place stays a number, not a type below 28: the reader counts it, also past the last, and `FormError`
 // hands it out.
-fn shape_of(k: usize) -> Shape
+fn entry(k: usize) -> Field
     requires { k < 28 }
-    ensures result_value { result.0 ≡ (field_at k).gap }
-    ensures result_value_2 { result.1 ≡ (field_at k).kind }
+    ensures name { up_to Blank result.0 ≡ (field_at k).name }
+    ensures gap { result.1 ≡ (field_at k).gap }
+    ensures kind { result.2 ≡ (field_at k).kind }
 {
-    let shapes = SHAPES;
-    shapes[k]
+    FIELDS[k]
 }
 
 pub fn kind_of(k: usize) -> Kind
     requires { k < 28 }
     ensures { result ≡ (field_at k).kind }
 {
-    let shape = shape_of(k);
-    shape.1
-}
-
-// The name of field k and what stands behind it, from a blank on: the names stand in cells of 16 bytes.
-fn cell(k: usize) -> [u8; 32]
-    requires { k < 28 }
-    ensures { up_to Blank result ≡ (field_at k).name }
-{
-    octets::part(
-        b"vpub_old        vpub_new        anchor          ephemeral_key   \
-          seed            proof           ciphertext_1    ciphertext_2    \
-          transaction_key old_1_key       old_1_value     old_1_rho       \
-          old_1_r         old_1_position  old_1_path      old_2_key       \
-          old_2_value     old_2_rho       old_2_r         old_2_position  \
-          old_2_path      new_1_address   new_1_value     new_1_r         \
-          new_2_address   new_2_value     new_2_r         phi             ",
-        16 * k,
-    )
+    entry(k).2
 }
 
 fn is_named(word: &[u8], k: usize) -> bool
     requires { k < 28 }
     ensures { result ≡ same_of word.now (field_at k).name }
 {
-    let name = cell(k);
+    let name = entry(k).0;
     let n = up_to(&name, is_blank);
     octets::same(word, &name[0..n])
 }
@@ -114,7 +95,7 @@ pub fn put_name<const N: usize>(page: &mut Page<N>, k: usize)
     requires { k < 28 }
     ensures { Wrote 32 (field_at k).name page.old page.new }
 {
-    let name = cell(k);
+    let name = entry(k).0;
     let n = up_to(&name, is_blank);
     page.put(&name[0..n]);
 }
@@ -185,8 +166,8 @@ pub fn put_field(page: &mut Page<4210>, k: usize, line: &[u8])
     requires { (length line.now ≤ 65536) × (is_field_of k line.now ≡ true) }
     ensures { Wrote ((field_at k).gap + size_of 296 (field_at k).kind) (field_bytes k (value_of line.now)) page.old page.new }
 {
-    let shape = shape_of(k);
-    put_zeros(page, shape.0);
+    let Field(_, gap, kind) = entry(k);
+    put_zeros(page, gap);
     let digits = value(line);
-    put_digits(page, shape.1, digits.text());
+    put_digits(page, kind, digits.text());
 }

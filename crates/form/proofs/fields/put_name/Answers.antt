@@ -8,4 +8,4 @@ use Rattle.form.proofs.fields.put_name.Goals as goal
 
 pub returns : goal.returns
 unfolding stops_at
-returns g c = text_as (simp length-take (omega arith)) (cut_before Blank _ _ (up_to_is Blank _ _ c.up_to-n.ensures.within (λ k l. sym (c.up_to-n.ensures.before k l)) (λ l. sym (c.up_to-n.ensures.found l))) ∙ c.cell-name.ensures) c.put.ensures
+returns g c = text_as (simp length-take (omega arith)) (cut_before Blank _ _ (up_to_is Blank _ _ c.up_to-n.ensures.within (λ k l. sym (c.up_to-n.ensures.before k l)) (λ l. sym (c.up_to-n.ensures.found l))) ∙ c.entry.ensures.name) c.put.ensures

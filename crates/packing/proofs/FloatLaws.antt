@@ -1,7 +1,8 @@
 -- The binary64 number that a word says: the nearest to what is written, finite, and read back from its bits.
 -- Assumes nothing.
-use Rattle.std.proofs.Common.{◌≡◌, ℕ, ◌*◌, ◌^◌, ◌<◌, ◌≤◌, Bool, true, false, cond, not, T, ltb, ◌⊎◌, List, ℤ, pos, sym, refl, ◌∙◌, subst, inl, inr, ⊎_elim, lt_irrefl, mul_assoc, mul_comm, pos_of_ne-zero, mul-pos, zero-mul, mul-one, mul_left_comm, arith, ltb-true, ne_eqb}
+use Rattle.std.proofs.Common.{◌≡◌, ℕ, ◌*◌, ◌^◌, ◌<◌, ◌≤◌, Bool, true, false, cond, not, T, ltb, ◌⊎◌, List, ℤ, pos, Some, None, sym, refl, ap, ◌∙◌, subst, inl, inr, ⊎_elim, lt_irrefl, mul_assoc, mul_comm, pos_of_ne-zero, mul-pos, zero-mul, mul-one, mul_left_comm, arith, ltb-true, ne_eqb}
 use mathlib.Core.Bool.{false≢true}
+use Rattle.std.specs.Option.{is_some, unwrap_or}
 use lib.Ieee
 use lib.Ieee.{Float, nan, inf, fin, Format, binary64, prec, low, up, down, units, round, div, neg, of_int, le, lt, eq, is_nan, fits, to_bits}
 use lib.Ieee.Fits.{round_is, up_pos, down_pos, div-fits, neg-fits, of_int-fits, cond-fits}
@@ -118,10 +119,21 @@ no_nan nan h = absurd (false≢true h)
 no_nan (inf s) h = tt
 no_nan (fin s m e) h = tt
 
--- by its sign, from the pieces that the code has: u is the word without it, and q the quotient of u
-pub number_none : (w u : List ℕ) → u ≡ unsigned w → is_unsigned u ≡ false → 0 ≡ to_bits binary64 (number_of w)
-unfolding number_of is_number Ieee.of_int Ieee.to_bits
-number_none w u e h = rw (sym e, h)
+-- asked for its number, a word says whether it is one, and which one; the bits of the other words' 0 are 0
+pub number_asked : (w : List ℕ) → is_some (cond (is_number w) (Some (to_bits binary64 (number_of w))) None) ≡ is_number w
+number_asked w = by_test (is_number w) (λ h. rw h refl) (λ h. rw h refl)
+
+number_none : (w : List ℕ) → is_number w ≡ false → 0 ≡ to_bits binary64 (number_of w)
+unfolding number_of Ieee.of_int Ieee.to_bits
+number_none w h = rw h
+
+pub number_or_0 : (w : List ℕ) → unwrap_or (cond (is_number w) (Some (to_bits binary64 (number_of w))) None) 0 ≡ to_bits binary64 (number_of w)
+number_or_0 w = by_test (is_number w) (λ h. rw h refl) (λ h. rw h (number_none w h))
+
+-- from the pieces that the code has: u is the word without its sign, and q the quotient of u
+pub number_test : (w u : List ℕ) → u ≡ unsigned w → is_number w ≡ is_unsigned u
+unfolding is_number
+number_test w u e = sym (ap is_unsigned e)
 
 module _ (w u : List ℕ) (q : Float) (e : u ≡ unsigned w) (h : is_unsigned u ≡ true) (f : q ≡ quotient_of u) where
   pub number_negative : is_negative w ≡ true → neg q ≡ number_of w

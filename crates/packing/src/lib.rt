@@ -156,14 +156,8 @@ fn is_unsigned(u: &[u8]) -> bool
     is_digits(behind(u, b'.'))
 }
 
-fn is_number(w: &[u8]) -> bool
-    ensures { result ≡ is_number w.now }
-{
-    is_unsigned(unsigned(w))
-}
-
 // The digits on both sides of the point, as one whole number. This and the next two are told that u is unsigned:
-// only `number_bits` asks, so a struct of the two halves would stand for one question.
+// only `number_in` asks, so a struct of the two halves would stand for one question.
 fn digits_of(u: &[u8]) -> u64
     requires { is_unsigned u.now ≡ true }
     ensures { result ≡ digits_of u.now }
@@ -191,25 +185,25 @@ fn quotient_of(u: &[u8]) -> f64
     digits / scale
 }
 
-// The bits of the number that a word says, and of 0 for any other word.
-fn number_bits(w: &[u8]) -> u64
-    ensures { result ≡ to_bits binary64 (number_of w.now) }
+// The bits of the number that a word says; none where it is no number.
+fn number_in(w: &[u8]) -> Option<u64>
+    ensures { result ≡ cond (is_number w.now) (Some (to_bits binary64 (number_of w.now))) None }
 {
     let u = unsigned(w);
     if !is_unsigned(u) {
-        return 0;
+        return None;
     }
     let q = quotient_of(u);
     if is_negative(w) {
-        return f64::to_bits(-q);
+        return Some(f64::to_bits(-q));
     }
-    f64::to_bits(q)
+    Some(f64::to_bits(q))
 }
 
 fn put_float(page: &mut Sheet, w: &[u8])
     ensures { Wrote 8 (float_bytes (number_of w.now)) page.old page.new }
 {
-    page.put(&octets::le_bytes64(number_bits(w)));
+    page.put(&octets::le_bytes64(number_in(w).unwrap_or(0)));
 }
 
 // The limit in word k, which gates from kind k on use; of others zero bytes.
@@ -315,7 +309,7 @@ fn is_fit(line: &[u8], kind: usize, k: usize) -> bool
 {
     let w = word(line, k);
     if k < kind + 2 {
-        return is_number(w);
+        return number_in(w).is_some();
     }
     if k == kind + 2 {
         return octets::same(w, b"cases");

@@ -41,6 +41,15 @@ impl<const N: usize> Page<N> {
         }
     }
 
+    // Puts the pen back to the start, so that one page serves for one text after the other: a large one is made once.
+    // What was written stays on the page, behind the pen, until it is written over.
+    pub fn clear(&mut self)
+        ensures cleared { self.new ≡ pen self.old.page 0 }
+        ensures room { length self.old.page ≡ N }
+    {
+        self.at = 0;
+    }
+
     // What was written.
     pub fn text(&self) -> &[u8]
         ensures { result.now ≡ take self.now.at self.now.page }
@@ -52,19 +61,18 @@ impl<const N: usize> Page<N> {
     fn put_byte(&mut self, x: u8)
         ensures { Wrote 1 (x ∷ []) self.old self.new }
     {
-        if self.at < N {
-            self.bytes[self.at] = x;
-            self.at += 1;
-        }
+        self.at = ink(&mut self.bytes, self.at, x);
     }
 
     // Some bytes.
     pub fn put(&mut self, words: &[u8])
         ensures { Wrote (length words.now) words.now self.old self.new }
     {
+        let mut at = self.at;
         for x in words {
-            self.put_byte(*x);
+            at = ink(&mut self.bytes, at, *x);
         }
+        self.at = at;
     }
 
     // A number in decimal. Not by `write!`: a page drops what does not fit, so that would be a second way to put,
@@ -90,16 +98,12 @@ impl<const N: usize> Page<N> {
     pub fn put_hex(&mut self, bytes: &[u8])
         ensures { Wrote (2 * length bytes.now) (hex bytes.now) self.old self.new }
     {
+        let mut at = self.at;
         for x in bytes {
-            self.put_hex_byte(*x);
+            let next = ink(&mut self.bytes, at, low_digit(*x / 16));
+            at = ink(&mut self.bytes, next, low_digit(*x));
         }
-    }
-
-    fn put_hex_byte(&mut self, x: u8)
-        ensures { Wrote 2 (hex_byte x) self.old self.new }
-    {
-        self.put_byte(low_digit(x / 16));
-        self.put_byte(low_digit(x));
+        self.at = at;
     }
 
     // A word and a number.
@@ -154,6 +158,19 @@ impl<const N: usize> Page<N> {
         self.put(name);
         self.put(b"\n");
     }
+}
+
+// One byte, where the next one goes to at; then the place behind it. The place is handed on from byte to byte: kept on
+// the page, it would be stored and read again at each.
+fn ink(bytes: &mut [u8], at: usize, x: u8) -> usize
+    ensures wrote { Wrote 1 (x ∷ []) (pen bytes.old at) (pen bytes.new result) }
+    ensures within { at ≤ length bytes.old → result ≤ length bytes.old }
+{
+    if at < bytes.len() {
+        bytes[at] = x;
+        return at + 1;
+    }
+    at
 }
 
 // The code of the hexadecimal digit of a byte's low four bits.

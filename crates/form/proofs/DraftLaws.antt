@@ -6,7 +6,7 @@ use mathlib.Core.Bool.{Bool, true, false, cond, ◌||◌}
 use mathlib.Core.List.{List, [], ◌∷◌, ◌++◌}
 use mathlib.Core.Logic.{◌⊎◌, inl, inr, ⊎_elim}
 use native.Mathlib.Decide.{dec_le}
-use native.Mathlib.Nat.{lt_of_not-le}
+use native.Mathlib.Nat.{lt_of_not-le, zero-add}
 use native.Mathlib.Omega.{arith}
 use lib.Dec.{eqb, ltb}
 use lib.ListN.{length, take, length-append}
@@ -138,9 +138,10 @@ begins s b q h w =
     let r = rendered (omega arith) w in
     record { text = r.text; short = w.short }
 
-pub draft_lem : (s b : List ℕ) (q : Pen) → length b ≡ 4210 → Wrote 4210 (reading_of s).bytes (pen b 0) q → q.page ≡ draft_after s b
+-- and is all that the page then has
+pub draft_lem : (s b : List ℕ) (q : Pen) → length b ≡ 4210 → Wrote 4210 (reading_of s).bytes (pen b 0) q → q ≡ pen (draft_after s b) (length (reading_of s).bytes)
 unfolding draft_after
-draft_lem s b q h w = ap (λ (x : Pen). x.page) (w.made ∙ written_fits _ b 0 (omega (arith, w.short)))
+draft_lem s b q h w = w.made ∙ written_fits _ b 0 (omega (arith, w.short)) ∙ ap (pen _) (zero-add _)
 
 -- so the draft has a case's length
 pub has_length_lem : (s : List ℕ) → (reading_of s).formed ≡ Ok tt → has_length (reading_of s).bytes ≡ true

@@ -10,7 +10,7 @@ ghost use Rattle.form.specs.Fields.{accepts as accepts_of, bytes_of, size_of, fi
 ghost use Rattle.form.specs.declared.fields.Kind.TheVariants.{Proof};
 
 use crate::digits::{is_hex, is_number, put_bytes, value_of};
-use crate::lines::{is_blank, up_to, value, word};
+use crate::lines::{is_blank, put_value, up_to, word};
 use text::Page;
 
 // What a field's value is: a number of 64 bits, one of 32 bits, so many hexadecimal digits, or the digits of the
@@ -141,15 +141,16 @@ fn put_digits(page: &mut Page<4210>, kind: Kind, digits: &[u8])
     }
 }
 
-// Whether a line is field k: it begins with the name, and its value is one of that kind.
-pub fn is_field(k: usize, line: &[u8]) -> bool
+// Whether a line is field k: it begins with the name, and its value is one of that kind. The lent page is for the
+// value, and of what it then has nothing is said.
+pub fn is_field(k: usize, line: &[u8], digits: &mut Page<65536>) -> bool
     requires { length line.now ≤ 65536 }
     ensures { result ≡ is_field_of k line.now }
 {
     if COUNT <= k || !is_named(word(line), k) {
         return false;
     }
-    let digits = value(line);
+    put_value(digits, line);
     accepts(kind_of(k), digits.text())
 }
 
@@ -161,13 +162,14 @@ fn put_zeros(page: &mut Page<4210>, n: usize)
     page.put(&none[0..n]);
 }
 
-// What it then adds to the case file: the bytes that are worked out, as zeros, and its own.
-pub fn put_field(page: &mut Page<4210>, k: usize, line: &[u8])
+// What it then adds to the case file: the bytes that are worked out, as zeros, and its own. The page of digits is lent
+// as to `is_field`.
+pub fn put_field(page: &mut Page<4210>, k: usize, line: &[u8], digits: &mut Page<65536>)
     requires { (length line.now ≤ 65536) × (is_field_of k line.now ≡ true) }
     ensures { Wrote ((field_at k).gap + size_of 296 (field_at k).kind) (field_bytes k (value_of line.now)) page.old page.new }
 {
     let Field(_, gap, kind) = entry(k);
     put_zeros(page, gap);
-    let digits = value(line);
+    put_value(digits, line);
     put_digits(page, kind, digits.text());
 }

@@ -9,10 +9,10 @@ mod fields;
 mod lines;
 
 ghost use Rattle.std.specs.Prelude.{◌≡◌, [], ◌≤◌, length};
-ghost use Rattle.text.specs.Pen.{Wrote};
+ghost use Rattle.text.specs.Pen.{pen, Wrote};
 ghost use Rattle.form.specs.declared.fields.Kind.TheVariants.{Hex};
 ghost use Rattle.form.specs.Lines.{lines_in};
-ghost use Rattle.form.specs.Forms.{is_passed_over, read_from, reading_of};
+ghost use Rattle.form.specs.Forms.{is_passed_over, read_from, reading_of, draft_after};
 ghost use Rattle.form.specs.Faults.{kind_words, field_words, wrong_line, fault_line};
 
 use fields::{COUNT, Kind, MOST_AMOUNT, MOST_POSITION, is_field, kind_of, put_field, put_name};
@@ -45,6 +45,7 @@ fn read_lines(text: &[u8], draft: &mut Page<4210>) -> Result<(), FormError>
     ensures value { result ≡ (read_from 1 0 [] (lines_in text.now)).formed }
     ensures wrote { Wrote 4210 (read_from 1 0 [] (lines_in text.now)).bytes draft.old draft.new }
 {
+    let mut digits = Page::new();
     let mut at = 0;
     let mut line = 1;
     let mut field = 0;
@@ -53,10 +54,10 @@ fn read_lines(text: &[u8], draft: &mut Page<4210>) -> Result<(), FormError>
         let n = up_to(rest, is_end);
         let here = &rest[0..n];
         if !is_passed_over(here) {
-            if !is_field(field, here) {
+            if !is_field(field, here, &mut digits) {
                 return Err(FormError::Wrong(line, field));
             }
-            put_field(draft, field, here);
+            put_field(draft, field, here, &mut digits);
             field += 1;
         }
         line += 1;
@@ -68,12 +69,14 @@ fn read_lines(text: &[u8], draft: &mut Page<4210>) -> Result<(), FormError>
     Ok(())
 }
 
-// Reads a form onto a page; one that is empty always has room for the draft. Of a wrong form, the fields before
-// the wrong line are written there.
+// Reads a form onto a page, from its start, whatever stood there: so it has room for every draft, and behind that is as
+// it was. Of a wrong form, the fields before the wrong line are written there.
 pub fn read(text: &[u8], draft: &mut Page<4210>) -> Result<(), FormError>
     ensures value { result ≡ (reading_of text.now).formed }
-    ensures wrote { Wrote 4210 (reading_of text.now).bytes draft.old draft.new }
+    ensures wrote { Wrote 4210 (reading_of text.now).bytes (pen draft.old.page 0) draft.new }
+    ensures draft_after { draft.new ≡ pen (draft_after text.now draft.old.page) (length (reading_of text.now).bytes) }
 {
+    draft.clear();
     if MOST_TEXT < text.len() {
         return Err(FormError::TooLong);
     }

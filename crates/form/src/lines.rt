@@ -2,7 +2,7 @@
 // modules beside this one. What is public here is for this crate alone, whose lines have at most 65,536 bytes.
 ghost use Rattle.std.specs.Prelude.{◌≡◌, ℕ, ◌<◌, ◌≤◌, true, false, length, slice_index};
 ghost use mathlib.Core.List.{flat_map};
-ghost use Rattle.text.specs.Pen.{Wrote, Holds};
+ghost use Rattle.text.specs.Pen.{Wrote, Rendered};
 ghost use Rattle.form.specs.Lines.{End, Mark, Ink, is_blank, stops_at, content_of, word_of, ink_of, value_of};
 
 use text::Page;
@@ -73,15 +73,15 @@ fn put_without_blanks(page: &mut Page<65536>, s: &[u8])
     }
 }
 
-// The value, on a page that has room for it. The four that are handed a line or the text ask for this bound: room
-// is needed here, and nowhere else.
-pub fn value(line: &[u8]) -> Page<65536>
+// The value, on a page that is cleared for it and has room for it. The page is lent, one for all lines of a form: to
+// make it anew takes longer than to read most of them. The four that are handed a line or the text ask for this bound:
+// room is needed here, and nowhere else.
+pub fn put_value(page: &mut Page<65536>, line: &[u8])
     requires { length line.now ≤ 65536 }
-    ensures { Holds 65536 (value_of line.now) result }
+    ensures { Rendered (value_of line.now) page.old.page page.new.page page.new.at }
 {
+    page.clear();
     let said = content(line);
     let start = up_to(said, is_blank);
-    let mut page = Page::new();
-    put_without_blanks(&mut page, &said[start..]);
-    page
+    put_without_blanks(page, &said[start..]);
 }

@@ -24,5 +24,5 @@ pub returns : goal.returns
 returns c =
     let f = c.args.k in
     let e = ap (λ (t : List ℕ). same t (field_at f).name) c.word.ensures in
-    c.accepts.ensures ∙ ap₂ accepts c.kind_of.ensures (c.text.ensures ∙ c.value-digits.ensures.text)
+    c.accepts.ensures ∙ ap₂ accepts c.kind_of.ensures (c.text.ensures ∙ c.put_value.ensures.text)
     ∙ sym (by_value f _ (omega arith) (sym (c.is_named.ensures ∙ e) ∙ not-false _ (ap not c.if-not-is_named.false)))

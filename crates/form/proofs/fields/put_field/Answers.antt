@@ -14,10 +14,10 @@ pub put_zeros-requires : goal.put_zeros-requires
 put_zeros-requires c = omega (arith, c.entry-gap.ensures.gap, gap_short _ (in_table _ _ c.requires.1))
 
 pub put_digits-requires : goal.put_digits-requires
-put_digits-requires c = ap₂ accepts c.entry-gap.ensures.kind (c.text.ensures ∙ c.value-digits.ensures.text) ∙ accepted _ _ c.requires.1
+put_digits-requires c = ap₂ accepts c.entry-gap.ensures.kind (c.text.ensures ∙ c.put_value.ensures.text) ∙ accepted _ _ c.requires.1
 
 pub returns : goal.returns
 unfolding field_bytes
 returns c =
     text_as (omega (arith, c.entry-gap.ensures.gap, ap (size_of 296) c.entry-gap.ensures.kind))
-    (ap₂ ◌++◌ (ap zeros c.entry-gap.ensures.gap) (ap₂ bytes_of c.entry-gap.ensures.kind (c.text.ensures ∙ c.value-digits.ensures.text))) (then c.put_zeros.ensures c.put_digits.ensures)
+    (ap₂ ◌++◌ (ap zeros c.entry-gap.ensures.gap) (ap₂ bytes_of c.entry-gap.ensures.kind (c.text.ensures ∙ c.put_value.ensures.text))) (then c.put_zeros.ensures c.put_digits.ensures)

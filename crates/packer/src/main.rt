@@ -7,6 +7,7 @@
 fn main(rt: HostRuntime) {
     let mut input = [0u8; 131072];
     let n = lines::read_full(&mut rt.stdin(), &mut input);
-    let page = packing::pack(&input[..n]);
+    let mut page = packing::Sheet::new();
+    packing::pack(&input[..n], &mut page);
     lines::print(&rt, page.text());
 }

@@ -9,7 +9,7 @@ ghost use Rattle.std.specs.Option.{option_map};
 ghost use Rattle.std.specs.Char.{is_ascii_digit};
 ghost use Rattle.std.specs.Float.{binary64};
 ghost use Rattle.text.specs.Decimal.{decimal};
-ghost use Rattle.text.specs.Pen.{Wrote, Holds};
+ghost use Rattle.text.specs.Pen.{Wrote, Rendered};
 ghost use Rattle.packing.specs.Words.{up_to as up_to_of, behind as behind_of, counted, word as word_of, space};
 ghost use Rattle.packing.specs.Decimals.{all_digits, is_digits, number_from, is_length, length_of, is_negative, unsigned as unsigned_of, is_unsigned, is_number, digits_of, scale_of, quotient_of, number_of};
 ghost use Rattle.packing.specs.Seals.{float_bytes, gate_kind, limit_bytes, seal_of};
@@ -20,7 +20,7 @@ ghost use Rattle.packing.specs.declared.PackingError.TheVariants.{OtherBytes};
 use text::Page;
 
 // A page with room for the longest line and the longest bag.
-type Sheet = Page<65616>;
+pub type Sheet = Page<65616>;
 
 // What is wrong with the input first. A word is named by its number, counted from 1. Where the cases have other
 // bytes than were named: how many there are, and how many were named.
@@ -438,12 +438,11 @@ fn put_text(page: &mut Sheet, line: &[u8], bytes: &[u8])
     }
 }
 
-// Packs a bag from a line of words and the bytes of cases behind it, or says in one line what is wrong. The
-// page has room for the longest line and the longest bag.
-pub fn pack(input: &[u8]) -> Page<65616>
-    ensures { Holds 65616 (text_of input.now) result }
+// Packs a bag from a line of words and the bytes of cases behind it, or says in one line what is wrong. The page is
+// cleared, and has room for the longest line and the longest bag; what lies behind the text is as it was.
+pub fn pack(input: &[u8], page: &mut Sheet)
+    ensures { Rendered (text_of input.now) page.old.page page.new.page page.new.at }
 {
-    let mut page = Sheet::new();
-    put_text(&mut page, up_to(input, b'\n'), behind(input, b'\n'));
-    page
+    page.clear();
+    put_text(page, up_to(input, b'\n'), behind(input, b'\n'));
 }

@@ -54,7 +54,7 @@ pub fn open(roll: &mut [u8]) -> Answered
 {
     if room_in(MOST_ANCHORS, roll.len()) == 0 {
         return Answered {
-            answer: Answer::from(Refusal::NoRoll),
+            answer: Answer::from(Refusal::Length),
             ledger: start(0),
         };
     }

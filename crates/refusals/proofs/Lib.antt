@@ -3,3 +3,4 @@ pub mod Denials
 pub mod SentenceLaws
 pub mod RuleLaws
 pub mod TwoTables
+pub mod Told

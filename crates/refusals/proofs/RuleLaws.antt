@@ -11,7 +11,7 @@ use Rattle.std.specs.Prelude.{Result, Ok, Err}
 use Rattle.std.specs.Result.{IsErr, IsErrAnd}
 use Rattle.refusals.specs.declared.Answer.{Answer}
 use Rattle.refusals.specs.declared.Refusal.{Refusal}
-use Rattle.refusals.specs.declared.Refusal.TheVariants.{Length, Damaged, NoRoom, BothPublic, AboveMoney, NoAnchor, EqualNullifiers, Spent, OldOutOfRange, PhiOutOfRange, PathAstray, Unbalanced, WrongNullifier, WrongAddress, WrongTag, WrongRho, WrongCommitment, PoolOutside, NoRoll}
+use Rattle.refusals.specs.declared.Refusal.TheVariants.{Length, Damaged, NoRoom, BothPublic, AboveMoney, NoAnchor, EqualNullifiers, Spent, OldOutOfRange, PhiOutOfRange, PathAstray, Unbalanced, WrongNullifier, WrongAddress, WrongTag, WrongRho, WrongCommitment, PoolOutside}
 use Rattle.refusals.specs.Reasons.{answer_for, as_answer}
 use Rattle.refusals.specs.Rules.{Rule, rule, answer_in_row, answer, accepted, is_accepted, first, rules_in, for_each, None, numbered}
 
@@ -81,7 +81,7 @@ first_passed a b n h = none_above a b (first_none a n (eqb-true (first a).number
 
 -- a refusal is no acceptance
 pub never_accepted : (refusal : Refusal) → is_accepted (answer_for refusal) ≡ false
-never_accepted = elim [ Length ↦ refl | Damaged ↦ refl | NoRoom ↦ refl | BothPublic ↦ refl | AboveMoney i ↦ refl | NoAnchor ↦ refl | EqualNullifiers ↦ refl | Spent i row ↦ refl | OldOutOfRange i ↦ refl | PhiOutOfRange ↦ refl | PathAstray i ↦ refl | Unbalanced ↦ refl | WrongNullifier i ↦ refl | WrongAddress i ↦ refl | WrongTag i ↦ refl | WrongRho i ↦ refl | WrongCommitment i ↦ refl | PoolOutside ↦ refl | NoRoll ↦ refl ]
+never_accepted = elim [ Length ↦ refl | Damaged ↦ refl | NoRoom ↦ refl | BothPublic ↦ refl | AboveMoney i ↦ refl | NoAnchor ↦ refl | EqualNullifiers ↦ refl | Spent i row ↦ refl | OldOutOfRange i ↦ refl | PhiOutOfRange ↦ refl | PathAstray i ↦ refl | Unbalanced ↦ refl | WrongNullifier i ↦ refl | WrongAddress i ↦ refl | WrongTag i ↦ refl | WrongRho i ↦ refl | WrongCommitment i ↦ refl | PoolOutside ↦ refl ]
 
 -- what `?` passes on, told as an answer
 pub passed_on : (refusal : Refusal) (asked : Result Unit Refusal) → IsErr asked × IsErrAnd asked (λ (r : Refusal). r ≡ refusal) → as_answer asked ≡ answer_for refusal

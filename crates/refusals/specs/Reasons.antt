@@ -4,7 +4,7 @@ use Rattle.std.specs.Prelude.{Result, Ok, Err}
 use Rattle.units.specs.Pairs.{number_of}
 use Rattle.refusals.specs.declared.Answer.{Answer}
 use Rattle.refusals.specs.declared.Refusal.{Refusal}
-use Rattle.refusals.specs.declared.Refusal.TheVariants.{Length, Damaged, NoRoom, BothPublic, AboveMoney, NoAnchor, EqualNullifiers, Spent, OldOutOfRange, PhiOutOfRange, PathAstray, Unbalanced, WrongNullifier, WrongAddress, WrongTag, WrongRho, WrongCommitment, PoolOutside, NoRoll}
+use Rattle.refusals.specs.declared.Refusal.TheVariants.{Length, Damaged, NoRoom, BothPublic, AboveMoney, NoAnchor, EqualNullifiers, Spent, OldOutOfRange, PhiOutOfRange, PathAstray, Unbalanced, WrongNullifier, WrongAddress, WrongTag, WrongRho, WrongCommitment, PoolOutside}
 use Rattle.refusals.specs.Rules.{accepted, answer, answer_in_row}
 
 abbrev pub answer_for : Refusal → Answer
@@ -26,7 +26,6 @@ answer_for (WrongTag i) = answer 14 (number_of i)
 answer_for (WrongRho i) = answer 15 (number_of i)
 answer_for (WrongCommitment i) = answer 16 (number_of i)
 answer_for PoolOutside = answer 17 0
-answer_for NoRoll = answer 1 0
 
 -- what is asked of a case, told: acceptance where nothing is against it
 abbrev pub as_answer : Result Unit Refusal → Answer

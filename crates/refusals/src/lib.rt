@@ -74,7 +74,8 @@ impl Answer {
 }
 
 // Why a case is refused, in the order of document 01's table, or the closing of a block (Damaged, NoRoom), or the
-// opening of a ledger (NoRoll). What is asked is answered with Ok, or with the first of these that applies.
+// opening of a ledger (Length, of its roll). What is asked is answered with Ok, or with the first of these that
+// applies; no two of them are told alike (proofs/Told.antt), so that what is told says which it is.
 #[derive(Clone, Copy)]
 pub enum Refusal {
     Length,
@@ -95,7 +96,6 @@ pub enum Refusal {
     WrongRho(Which),
     WrongCommitment(Which),
     PoolOutside,
-    NoRoll,
 }
 
 // Its number and place, and of a spent nullifier the row.
@@ -122,7 +122,6 @@ impl From<Refusal> for Answer {
             Refusal::WrongRho(i) => Answer::refused(15, i.number()),
             Refusal::WrongCommitment(i) => Answer::refused(16, i.number()),
             Refusal::PoolOutside => Answer::refused(17, 0),
-            Refusal::NoRoll => Answer::refused(1, 0),
         }
     }
 }

@@ -9,9 +9,8 @@ use borrow.Rule.Slice.PartMut.{put_mid}
 use lib.ListN.{length, take, drop, take-append-drop, drop_of_length-le, length-append, length-drop}
 use lib.Seq.{take-take, take-add, drop-drop, take-append-le, drop-append-le, drop_at, length-take-le}
 use Rattle.std.proofs.lemmas.List.{drop-take}
-use Rattle.std.specs.Cmp.Lexicographic.{nat_list_eq_equiv, pointwise}
 use Rattle.std.specs.List.{copy_within, list_any}
-use Rattle.std.specs.Prelude.{nat_eq}
+use Rattle.std.specs.Ordering.{is_eq}
 use Rattle.std.specs.Simd.{first_chunks}
 use Rattle.octets.specs.Parts.{pasted}
 use Rattle.octets.specs.Rows.{rows_of, flat}
@@ -22,7 +21,7 @@ use Rattle.ledger.specs.Sorted.{place_of, is_gap, rising, find, insert_all}
 use Rattle.std.specs.declared.cmp.Ordering.TheVariants.{Equal}
 use Rattle.ledger.specs.Rows.{byte_order, row_at, shifted, table_with, with_row, among}
 use Rattle.std.specs.Prelude.{Ok}
-use Rattle.ledger.proofs.ByteOrder.{byte_total, same_pairs}
+use Rattle.ledger.proofs.ByteOrder.{byte_total, same_order}
 use Rattle.ledger.proofs.Sorting.{find_at, place_le, insert_gap}
 
 -- where a row stands among the first n
@@ -45,11 +44,11 @@ rows_chunks n t h =
     let e : length (take (n * 32) t) / 32 ≡ n = omega (arith, length-take-le (n * 32) t h) in
     rw e (chunked n t h)
 
--- a row is among some exactly if it is equal to any of them
-pub any_among : (r : List ℕ) (l : List (List ℕ)) → list_any (λ x. pointwise nat_eq x r) l ≡ among r l
+-- a row is among some exactly if it is equal to any of them, by the order
+pub any_among : (r : List ℕ) (l : List (List ℕ)) → list_any (λ x. is_eq (byte_order r x)) l ≡ among r l
 unfolding among
 any_among r [] = refl
-any_among r (x ∷ l) = ap₂ ◌||◌ (nat_list_eq_equiv.symm x r ∙ sym (same_pairs r x)) (any_among r l)
+any_among r (x ∷ l) = ap₂ ◌||◌ (sym (same_order r x)) (any_among r l)
 
 -- the bytes that the loop has moved up: none, and one more
 pub shifted_none : (t : List ℕ) (to : ℕ) → t ≡ shifted t to to

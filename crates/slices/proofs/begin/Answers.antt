@@ -1,11 +1,13 @@
 -- A buffer that is no record, a case of wrong length, or a case taken in and its first level climbed: the three ways of the definition.
 use mathlib.Core.Path.{◌≡◌, sym, ap, ◌∙◌}
 use mathlib.Core.Bool.{true, not}
+use mathlib.Core.Logic.{⊎_elim}
 use Prim.Native.Nat.{ℕ, ◌+◌}
 use native.Mathlib.Omega.{arith}
 use borrow.Author.Tests.{eq-eqb, ne_eqb, not-true, not-false}
 use lib.ListN.{length}
 use Rattle.casefile.specs.Fields.{has_length}
+use Rattle.casefile.proofs.Editions.{two_lengths}
 use Rattle.slices.specs.Records.{judgement_length, steps_in, without_case}
 use Rattle.slices.specs.Steps.{not_yet, climbed_in, begin_answer, record_after_begin}
 use Rattle.slices.proofs.RecordLaws.{taken_steps}
@@ -29,6 +31,14 @@ returns-then-not-has_length c =
       value = rw (long, no) c.from-then-not-has_length.ensures;
       judgement_after = rw (long, no) c.copy_in.ensures.dst_after;
     }
+
+-- a case of either length has room behind the head of a record
+pub take_in-requires : goal.take_in-requires
+take_in-requires c =
+    let whole : has_length c.args.case.now ≡ true = sym c.has_length.ensures ∙ not-false _ (ap not c.if-not-has_length.false) in
+    ⊎_elim (λ (e : length c.args.case.now ≡ 4210). omega (arith, c.if-judgement-ne-JUDGEMENT_LENGTH.false, e))
+    (λ (e : length c.args.case.now ≡ 4106). omega (arith, c.if-judgement-ne-JUDGEMENT_LENGTH.false, e))
+    ((two_lengths c.args.case.now).0 whole)
 
 pub climb-requires : goal.climb-requires
 climb-requires c =

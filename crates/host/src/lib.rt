@@ -155,13 +155,14 @@ fn hand_out(sealed: Result<f64, SealRefusal>, pull: &mut [u8]) -> u32
     ensures value { result ≡ code_of (seal_answer sealed) }
     ensures pull_after { pull.new ≡ handed sealed pull.old }
 {
+    let answer = seal::answer(sealed);
     match sealed {
         Ok(p) => {
             let bytes = octets::le_bytes64(bits_of(p));
             octets::copy_in(pull, 0, &bytes);
-            code(Answer::accepted())
+            code(answer)
         }
-        Err(refusal) => code(Answer::from(refusal)),
+        Err(_) => code(answer),
     }
 }
 

@@ -15,7 +15,7 @@ ghost use Rattle.text.specs.Words.{ascii};
 ghost use Rattle.text.specs.Decimal.{decimal};
 ghost use Rattle.text.specs.Answers.{answer_words, answer_line};
 ghost use Rattle.text.specs.Hex.{hex, hex64};
-ghost use Rattle.text.specs.Pen.{Wrote};
+ghost use Rattle.text.specs.Pen.{pen, Wrote, Rendered};
 ghost use Rattle.replay.specs.Looks.{ledger_text, row_line, row_lines, rows_text, memory_text, pull_bits, sealed_text, seal_text};
 ghost use Rattle.replay.specs.Tape.{nothing as nothing_of, running_on, can_lend, open_turn, plant_length, plant_turn, row_laid, laid_by, can_lay, table_turn, roll_turn, lay_turn, case_turn, desk_line, desk_on, desk_turn, fresh_turn, block_turn, look_turn, bare_turn, seal_turn, name_turn, other_turn, entry_turn, next_turn, entry_length, longest, LentWithin, Plays};
 
@@ -29,7 +29,9 @@ use tree::Tree;
 use units::Amount;
 
 // A page with room for the longest text of an entry.
-type Sheet = Page<219136>;
+const LONGEST: usize = 219136;
+
+type Sheet = Page<LONGEST>;
 
 // What is kept from entry to entry: the ledger, how many bytes of each buffer are lent to it, and
 // whether the run goes on. The buffers are handed beside it: an entry that only looks is lent them for
@@ -183,9 +185,10 @@ fn put_passed(page: &mut Sheet, a: Answer, pull: f64)
 fn put_sealed(page: &mut Sheet, sealed: Result<f64, SealRefusal>)
     ensures { Wrote 64 (sealed_text sealed) page.old page.new }
 {
+    let a = seal::answer(sealed);
     match sealed {
-        Ok(pull) => put_passed(page, Answer::accepted(), pull),
-        Err(refusal) => page.put_answer_line(b"seal", Answer::from(refusal)),
+        Ok(pull) => put_passed(page, a, pull),
+        Err(_) => page.put_answer_line(b"seal", a),
     }
 }
 
@@ -560,7 +563,7 @@ fn read_next(input: &mut impl io::Read, buffer: &mut [u8]) -> Result<Option<Entr
     }))
 }
 
-// Plays what stands next. On an empty page its text always has room.
+// Plays what stands next, and puts its text behind what the page has.
 fn play_next(
     next: Result<Option<Entry>, Broken>,
     buffer: &[u8],
@@ -580,6 +583,25 @@ fn play_next(
     }
 }
 
+// The same on a page that is cleared first. It has room for the longest text, so what stands on it then is the text
+// of this entry, whole and alone.
+fn play_cleared(
+    next: Result<Option<Entry>, Broken>,
+    buffer: &[u8],
+    table: &mut [u8],
+    roll: &mut [u8],
+    state: State,
+    page: &mut Sheet,
+) -> State
+    requires next_in_bounds { entry_length next ≤ length buffer.now }
+    requires lent_within { LentWithin state table.old roll.old }
+    ensures plays { Plays (next_turn next buffer.now table.old roll.old state) table.new roll.new (pen page.old.page 0) page.new result }
+    ensures text { Rendered (next_turn next buffer.now table.old roll.old state).text page.old.page page.new.page page.new.at }
+{
+    page.clear();
+    play_next(next, buffer, table, roll, state, page)
+}
+
 // Plays and prints what stands next. A run whose text cannot be written ends.
 fn turn(
     input: &mut impl io::Read,
@@ -588,13 +610,13 @@ fn turn(
     table: &mut [u8],
     roll: &mut [u8],
     state: State,
+    page: &mut Sheet,
 ) -> State
     requires { LentWithin state table.old roll.old }
     ensures { LentWithin result table.new roll.new }
 {
     let next = read_next(input, buffer);
-    let mut page = Sheet::new();
-    let played = play_next(next, buffer, table, roll, state, &mut page);
+    let played = play_cleared(next, buffer, table, roll, state, page);
     if lines::print(rt, page.text()) {
         return played;
     }
@@ -602,7 +624,7 @@ fn turn(
 }
 
 // A proved loop has to end, and nothing says that a tape does: the turns are counted to a number that no
-// run uses up.
+// run uses up. One page serves for all entries: to make it anew takes longer than to play most of them.
 fn play(
     input: &mut impl io::Read,
     rt: &(impl Print + Eprint),
@@ -610,12 +632,13 @@ fn play(
     table: &mut [u8],
     roll: &mut [u8],
 ) {
+    let mut page = Sheet::new();
     let mut state = nothing(true);
     for _ in 0..u64::MAX {
         if !state.on {
             break;
         }
-        state = turn(input, rt, buffer, table, roll, state);
+        state = turn(input, rt, buffer, table, roll, state, &mut page);
     }
 }
 

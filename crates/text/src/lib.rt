@@ -6,7 +6,7 @@ ghost use Rattle.std.specs.Prelude.{◌≡◌, ◌+◌, ◌*◌, ◌≤◌, ◌%
 ghost use Rattle.text.specs.Pen.{Pen, pen, Wrote};
 ghost use Rattle.octets.specs.Parts.{zeros};
 ghost use Rattle.text.specs.Decimal.{decimal};
-ghost use Rattle.text.specs.Hex.{hex_digit, hex_byte, hex, hex64};
+ghost use Rattle.text.specs.Hex.{hex_digit, hex, hex64};
 ghost use Rattle.text.specs.Answers.{answer_words, answer_line, spent_row_line, answer_and_row};
 ghost use Rattle.text.specs.Words.{name_line};
 

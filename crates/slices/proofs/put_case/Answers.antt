@@ -1,4 +1,4 @@
-use Rattle.std.proofs.Common.{◌∙◌, refl, arith, length}
+use Rattle.std.proofs.Common.{◌∙◌, refl, arith}
 use lib.ListN.{length-set}
 use lib.Seq.{paste-zero}
 use Rattle.octets.proofs.PartLaws.{pasting, pasting_done}

@@ -563,29 +563,9 @@ fn read_next(input: &mut impl io::Read, buffer: &mut [u8]) -> Result<Option<Entr
     }))
 }
 
-// Plays what stands next, and puts its text behind what the page has.
+// Plays what stands next, on a page that is cleared for it. It has room for the longest text, so what stands on it
+// then is the text of this entry, whole and alone.
 fn play_next(
-    next: Result<Option<Entry>, Broken>,
-    buffer: &[u8],
-    table: &mut [u8],
-    roll: &mut [u8],
-    state: State,
-    page: &mut Sheet,
-) -> State
-    requires next_in_bounds { entry_length next ≤ length buffer.now }
-    requires lent_within { LentWithin state table.old roll.old }
-    ensures { Plays (next_turn next buffer.now table.old roll.old state) table.new roll.new page.old page.new result }
-{
-    match next {
-        Ok(Some(e)) => run(e.kind, &buffer[..e.length], table, roll, state, page),
-        Ok(None) => nothing(false),
-        Err(Broken) => break_off(page),
-    }
-}
-
-// The same on a page that is cleared first. It has room for the longest text, so what stands on it then is the text
-// of this entry, whole and alone.
-fn play_cleared(
     next: Result<Option<Entry>, Broken>,
     buffer: &[u8],
     table: &mut [u8],
@@ -599,7 +579,11 @@ fn play_cleared(
     ensures text { Rendered (next_turn next buffer.now table.old roll.old state).text page.old.page page.new.page page.new.at }
 {
     page.clear();
-    play_next(next, buffer, table, roll, state, page)
+    match next {
+        Ok(Some(e)) => run(e.kind, &buffer[..e.length], table, roll, state, page),
+        Ok(None) => nothing(false),
+        Err(Broken) => break_off(page),
+    }
 }
 
 // Plays and prints what stands next. A run whose text cannot be written ends.
@@ -616,7 +600,7 @@ fn turn(
     ensures { LentWithin result table.new roll.new }
 {
     let next = read_next(input, buffer);
-    let played = play_cleared(next, buffer, table, roll, state, page);
+    let played = play_next(next, buffer, table, roll, state, page);
     if lines::print(rt, page.text()) {
         return played;
     }

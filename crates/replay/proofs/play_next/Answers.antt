@@ -4,7 +4,7 @@ use Rattle.std.specs.Prelude.{Ok, Some, None}
 use Rattle.text.specs.Pen.{Pen, pen, Rendered}
 use Rattle.text.proofs.PenLaws.{start, rendered}
 use Rattle.replay.specs.declared.State.{State}
-use Rattle.replay.specs.Tape.{Turn, Next, next_turn, longest, Plays}
+use Rattle.replay.specs.Tape.{Turn, Next, next_turn, Plays}
 use Rattle.replay.proofs.TurnLaws.{plays_as, nowhere, plays, plays_broken}
 use Rattle.replay.proofs.play_next.Goals as goal
 
